@@ -1,0 +1,1 @@
+// Definitions and laws that every floor uses: nothing here runs.
