@@ -1,0 +1,5 @@
+pub mod Bits
+pub mod Calls
+pub mod Numbers
+pub mod Laws
+pub mod Rows

@@ -1,0 +1,4 @@
+pub mod Reads
+pub mod Run
+pub mod Widths
+pub mod Values

@@ -1,0 +1,1 @@
+// A format as a program of reads: definitions and laws, nothing that runs.
