@@ -149,6 +149,18 @@ fn short_streams(tally: &mut Tally) {
     }
 }
 
+/// Streams of 24 bytes, long enough for a read to take 8 at once: every position, every width to 40.
+fn middle_streams(tally: &mut Tally) {
+    for seed in 0..60 {
+        let stream = Seeded::new(seed).bytes(24, Seeded::byte);
+        tally.stream("24 bytes at every position");
+        let mut lent = Lent::new(stream, format!("24 bytes, seed {seed}"));
+        for at in 0..=24 * 8 {
+            lent.compare_at(tally, at, 0..=40);
+        }
+    }
+}
+
 /// Around the longest stream and the farthest position.
 fn limits(tally: &mut Tally) {
     for length in [0, 1, 9, LONGEST - 1, LONGEST, LONGEST + 1] {
@@ -188,6 +200,7 @@ fn walks(tally: &mut Tally, count: usize) {
                 _ if call == SKIP_BYTES => s.one_of(&CORNERS) as usize,
                 0 => s.below(41),
                 1 => (end + s.below(3)).saturating_sub(at + s.below(3)),
+                2 => s.below(33),
                 _ => s.below(17),
             };
             at = lent.compare(tally, call, at, argument);
@@ -199,9 +212,12 @@ fn walks(tally: &mut Tally, count: usize) {
 }
 
 pub fn compare(tally: &mut Tally, count: usize) {
-    println!("reader: short streams at every position to 17 bits past the end and every width to 40, positions around");
-    println!("01's limit, and {count} seeded calls one after the other");
+    println!(
+        "reader: short streams at every position and every width to 40, lengths and positions around 01's limits,"
+    );
+    println!("and {count} seeded calls one after the other");
     short_streams(tally);
+    middle_streams(tally);
     limits(tally);
     walks(tally, count);
 }
