@@ -131,14 +131,10 @@ fn as_numbers(format: Format) -> [usize; 4] {
     [format.samplerate_index, format.bitrate_index, format.mode, format.bound]
 }
 
-/// A format that some header gives.
+/// A format as a header and the frames after it leave one: the bound may have been cut to a limit.
 fn some_format(s: &mut Seeded) -> Format {
     let mode = s.below(4);
-    let bound = match mode {
-        1 => 4 * (s.below(4) + 1),
-        3 => 0,
-        _ => 32,
-    };
+    let bound = if mode == 3 { 0 } else { s.below(33) };
     Format {
         samplerate_index: s.below(3),
         bitrate_index: s.below(14),
