@@ -2,3 +2,4 @@ pub mod Tests
 pub mod First
 pub mod Upto
 pub mod Table
+pub mod Entries

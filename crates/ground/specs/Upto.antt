@@ -1,7 +1,7 @@
 -- A test that antt computes at each number below a bound, and what it says of each: a table's rule, proved once.
 -- Assumes nothing.
 use mathlib.Core.Path.{_≡_, subst, sym}
-use mathlib.Core.Bool.{Bool, true, false, _&&_}
+use mathlib.Core.Bool.{Bool, true, false, _&&_, _||_}
 use Prim.Native.Nat.{ℕ, zero, suc, _≤_, _<_}
 use native.Mathlib.Nat.{not-suc-le-zero, le-of-suc-le-suc}
 use native.Mathlib.Decide.{ℕ-discrete}
@@ -15,6 +15,10 @@ and-left false b t = t
 pub and-right : (a b : Bool) → T (a && b) → T b
 and-right true b t = t
 and-right false b t = absurd t
+
+pub or-left : (a b : Bool) → T (a || b) → (T b → ⊥) → T a
+or-left true b t f = tt
+or-left false b t f = absurd (f t)
 
 -- f holds at each number below n
 abbrev pub upto : (ℕ → Bool) → ℕ → Bool

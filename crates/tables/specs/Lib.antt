@@ -1,0 +1,5 @@
+pub mod Standard
+pub mod Source
+pub mod Laws
+pub mod Differences
+pub mod Rows
