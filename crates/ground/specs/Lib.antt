@@ -3,3 +3,4 @@ pub mod First
 pub mod Upto
 pub mod Table
 pub mod Entries
+pub mod Magnitude

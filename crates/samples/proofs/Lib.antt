@@ -1,0 +1,2 @@
+pub mod Quantisers
+pub mod Shift

@@ -1,0 +1,4 @@
+pub mod Sample
+pub mod Meaning
+pub mod Rows
+pub mod Bounds
