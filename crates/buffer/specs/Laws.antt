@@ -68,6 +68,14 @@ unfolding fieldOf
 field-moves s r n =
     read-cases (λ x. Moves s r n (orZero r x .next)) s r n (λ _. omega arith) (omega arith) (λ h k. omega arith)
 
+-- a field that is not 0 was all there
+pub field-read : (s : List ℕ) (r : Reader) (n : ℕ) → 0 < n → (fieldOf s r n .value ≡ 0 → ⊥)
+    → (fieldOf s r n .next .at .0 ≡ r .at .0 + n) × (r .at .0 + n ≤ 8 * length s)
+unfolding fieldOf
+field-read s r n pos =
+    read-cases (λ x. (orZero r x .value ≡ 0 → ⊥) → (orZero r x .next .at .0 ≡ r .at .0 + n) × (r .at .0 + n ≤ 8 * length s)) s r n
+    (λ _ f. absurd (f refl)) (λ f. absurd (f refl)) (λ h k _. (refl, omega arith))
+
 pub fielded : (f : Field) (s : List ℕ) (r : Reader) (n : ℕ) → f ≡ fieldOf s r n → Fielded s r n f
 fielded f s r n e =
     rw e

@@ -1,0 +1,62 @@
+use mathlib.Core.Path.{_≡_, ap, sym, _∙_}
+use Rattle.header.specs.Header.{startOf, byHas, bySkip}
+use borrow.Author.Needs.{needs}
+use Rattle.header.proofs.find_start.Statement.{statement}
+use Rattle.header.proofs.find_start.Tie as tie
+
+has-requires : tie.Need-has-requires
+has-requires c κs = search needs
+
+enum-told : tie.Need-enum-told
+enum-told c = search needs
+
+returns : tie.Need-returns
+unfolding startOf
+returns c = ap (byHas _ _) (sym (c .enum-told .given .1) ∙ c .before .before .has .ensures)
+
+enum-known-enough : tie.Need-enum-known-enough
+enum-known-enough c = search needs
+
+returns-2 : tie.Need-returns-2
+unfolding startOf
+returns-2 c = ap (byHas _ _) (sym (c .before .enough .given .1) ∙ c .before .before .before .has .ensures)
+
+enum-told-2 : tie.Need-enum-told-2
+enum-told-2 c = search needs
+
+skip-bytes-requires : tie.Need-skip-bytes-requires
+skip-bytes-requires c κs = search needs
+
+enum-known-zeros : tie.Need-enum-known-zeros
+enum-known-zeros c = search needs
+
+sync-requires : tie.Need-sync-requires
+sync-requires c κs = search needs
+
+enum-known-zeros-2 : tie.Need-enum-known-zeros-2
+enum-known-zeros-2 c = search needs
+
+returns-3 : tie.Need-returns-3
+unfolding startOf
+returns-3 c = c .sync .ensures ∙ ap (bySkip _ _) (sym (c .before .before .zeros .given .1) ∙ c .before .before .before .before .skip-bytes .ensures) ∙ ap (byHas _ _) (sym (c .before .before .before .before .before .enum-told2 .given .1) ∙ c .before .before .before .before .before .before .before .has .ensures)
+
+returns-4 : tie.Need-returns-4
+unfolding startOf
+returns-4 c = ap (bySkip _ _) (sym (c .before .zeros2 .given .1) ∙ c .before .before .before .skip-bytes .ensures) ∙ ap (byHas _ _) (sym (c .before .before .before .before .enum-told2 .given .1) ∙ c .before .before .before .before .before .before .has .ensures)
+
+pub find-start-spec : {M : Type 1} → statement M
+find-start-spec =
+    tie.close
+    (tie.spec
+    has-requires
+    enum-told
+    returns
+    enum-known-enough
+    returns-2
+    enum-told-2
+    skip-bytes-requires
+    enum-known-zeros
+    sync-requires
+    enum-known-zeros-2
+    returns-3
+    returns-4)

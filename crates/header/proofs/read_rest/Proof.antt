@@ -1,0 +1,37 @@
+use mathlib.Core.Path.{_≡_, ap, sym, _∙_}
+use Rattle.grammar.specs.Run.{asked, andThen, run-done}
+use Rattle.header.specs.Header.{restOf}
+use borrow.Author.Needs.{needs}
+use Rattle.header.proofs.read_rest.Statement.{statement}
+use Rattle.header.proofs.read_rest.Tie as tie
+
+read-mode-requires : tie.Need-read-mode-requires
+read-mode-requires c κs = search needs
+
+other-format-requires : tie.Need-other-format-requires
+other-format-requires c κs = search needs
+
+returns : tie.Need-returns
+unfolding restOf
+returns c = andThen _ _ _ _ (c .before .before .before .read-mode .ensures) (rw (sym (c .before .other-format .ensures) ∙ c .if1 .taken) (sym (run-done _ _ _)))
+
+read-bound-requires : tie.Need-read-bound-requires
+read-bound-requires c κs = search needs
+
+data-size-requires : tie.Need-data-size-requires
+data-size-requires c κs = search needs
+
+returns-2 : tie.Need-returns-2
+unfolding restOf
+returns-2 c = andThen _ _ _ _ (c .before .before .before .before .before .before .read-mode .ensures) (rw (sym (c .before .before .before .before .other-format .ensures) ∙ c .before .before .before .if1 .left) (andThen _ _ _ _ (c .before .before .read-bound .ensures) (rw (c .data-size .ensures) (sym (run-done _ _ _)))))
+
+pub read-rest-spec : {M : Type 1} → statement M
+read-rest-spec =
+    tie.close
+    (tie.spec
+    read-mode-requires
+    other-format-requires
+    returns
+    read-bound-requires
+    data-size-requires
+    returns-2)

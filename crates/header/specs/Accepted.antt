@@ -1,0 +1,148 @@
+-- What an accepted header holds, whatever the stream: ranges of its format, and a data size of 90 to 1,725 (01's state in range).
+-- Assumes nothing.
+use Prim.Native.Nat.{ℕ, _+_, _-_, _*_, _/_, _≤_, _<_, _^_}
+use mathlib.Core.Path.{_≡_, refl}
+use mathlib.Core.Bool.{Bool, true, false, _&&_, _||_}
+use mathlib.Core.List.{List}
+use native.Mathlib.Omega.{arith}
+use lib.Dec.{T, eqb, leb, leb→le}
+use borrow.Author.Tests.{eqb-true, eqb-false}
+use Rattle.ground.specs.Tests.{by-test, neither}
+use Rattle.ground.specs.Upto.{below2, and-left, and-right}
+use Rattle.buffer.specs.declared.Reader.{Reader}
+use Rattle.grammar.specs.Reads.{Reads, done, ask, _>>=_}
+use Rattle.grammar.specs.Values.{Always, always-bind, always-run}
+use Rattle.tables.specs.Standard.{kbpsOf, rateOf}
+use Rattle.header.specs.declared.Ident.{Ident}
+use Rattle.header.specs.declared.Ident.the-variants.{LayerII, Refused as IdentRefused}
+use Rattle.header.specs.declared.Rates.{Rates}
+use Rattle.header.specs.declared.Rates.the-variants.{Known, Refused as RatesRefused}
+use Rattle.header.specs.declared.Format.{Format}
+use Rattle.header.specs.declared.Header.{Header}
+use Rattle.header.specs.declared.Header.the-variants.{Accepted, Refused}
+use Rattle.header.specs.declared.Start.{Start}
+use Rattle.header.specs.declared.Start.the-variants.{At, Refused as StartRefused}
+use Rattle.header.specs.Header.{identOf, ratesOf, modeOf, boundOf, checkOf, boundBy, sizeOf, restOf, byRates, byIdent, fieldsOf, differs, headerOf, startOf, byStart}
+
+-- the frame size of each bit rate and sample rate, by one computed test
+sizesAt : ℕ → ℕ → Bool
+sizesAt b f =
+    leb (kbpsOf b) 384 && (leb 1 (rateOf f) && (leb 96 (144000 * kbpsOf b / rateOf f) && leb (144000 * kbpsOf b / rateOf f) 1728))
+
+pub record Sizes (b f : ℕ) : Type 0 where
+  pub slow : kbpsOf b ≤ 384
+  pub rate : 0 < rateOf f
+  pub least : 96 ≤ 144000 * kbpsOf b / rateOf f
+  pub most : 144000 * kbpsOf b / rateOf f ≤ 1728
+
+pub sizes : (b f : ℕ) → b < 14 → f < 3 → Sizes b f
+unfolding sizesAt
+sizes b f p q =
+    let t = below2 sizesAt 14 3 tt b f p q in
+    let u = and-right (leb (kbpsOf b) 384) _ t in
+    let v = and-right (leb 1 (rateOf f)) _ u in
+    record {
+      slow = leb→le _ _ (and-left (leb (kbpsOf b) 384) _ t);
+      rate = leb→le _ _ (and-left (leb 1 (rateOf f)) _ u);
+      least = leb→le _ _ (and-left (leb 96 (144000 * kbpsOf b / rateOf f)) _ v);
+      most = leb→le _ _ (and-right (leb 96 (144000 * kbpsOf b / rateOf f)) _ v);
+    }
+
+size-fits : (b f p : ℕ) (check : Bool) → b < 14 → f < 3 → p < 2 → (90 ≤ sizeOf b f p check) × (sizeOf b f p check ≤ 1725)
+unfolding sizeOf
+size-fits b f p true l m n = let z = sizes b f l m in (omega arith, omega arith)
+size-fits b f p false l m n = let z = sizes b f l m in (omega arith, omega arith)
+
+-- the rates, where they are known
+abbrev pub Rated : Rates → Type 0
+Rated (Known b f p) = (b < 14) × (f < 3) × (p < 2)
+Rated (RatesRefused n) = Unit
+
+pub rates-known : Always Rated ratesOf
+unfolding ratesOf Always
+rates-known =
+    λ b l. by-test (Always Rated) (eqb b 0 || eqb b 15) _ _ (λ _. tt)
+    (λ m. λ f k. by-test (Always Rated) (eqb f 3) _ _ (λ _. tt)
+    (λ o. λ p j. (low b l (eqb-false b 15 (neither (eqb b 0) (eqb b 15) m .1)), three f k (eqb-false f 3 o), j)))
+  where
+    low : (b : ℕ) → b < 2 ^ 4 → (b ≡ 15 → ⊥) → b - 1 < 14
+    low b l n = omega arith
+
+    three : (f : ℕ) → f < 2 ^ 2 → (f ≡ 3 → ⊥) → f < 3
+    three f l n = omega arith
+
+mode-small : Always (λ m. m < 4) modeOf
+unfolding modeOf Always
+mode-small = λ _ _. λ m l. l
+
+any-check : (c : Bool) → Always (λ _. Unit) (checkOf c)
+unfolding checkOf Always
+any-check true = λ _ _. tt
+any-check false = tt
+
+-- a bound of at most 32, which is 0 in mono
+abbrev Bounded : ℕ → ℕ → Type 0
+Bounded mode bound = (bound ≤ 32) × (mode ≡ 3 → bound ≡ 0)
+
+bound-small : (mode : ℕ) (check : Bool) → Always (Bounded mode) (boundOf mode check)
+unfolding boundOf Always
+bound-small mode check =
+    λ e k. λ _ _. always-bind (λ _. Unit) (Bounded mode) (checkOf check) _ (any-check check)
+    (λ _ _. by-test (Bounded mode) (eqb mode 1) _ _ (λ t. (four e k, λ h. other mode _ (eqb-true mode 1 t) h))
+    (λ _. by-test (Bounded mode) (eqb mode 3) _ _ (λ _. (omega arith, λ _. refl)) (λ t. (omega arith, λ h. absurd (eqb-false mode 3 t h)))))
+  where
+    four : (e : ℕ) → e < 2 ^ 2 → 4 * (e + 1) ≤ 32
+    four e k = omega arith
+
+    other : (m n : ℕ) → m ≡ 1 → m ≡ 3 → n ≡ 0
+    other m n p q = omega arith
+
+-- 01's ranges of a format and a data size
+pub record Good (f : Format) (size : ℕ) : Type 0 where
+  pub samplerate : f .samplerate < 3
+  pub bitrate : f .bitrate < 14
+  pub mode : f .mode < 4
+  pub bound : f .bound ≤ 32
+  pub mono : f .mode ≡ 3 → f .bound ≡ 0
+  pub least : 90 ≤ size
+  pub most : size ≤ 1725
+
+abbrev pub GoodHeader : Header → Type 0
+GoodHeader (Accepted f size) = Good f size
+GoodHeader (Refused n) = Unit
+
+rest-good : (known : Format) (check : Bool) (b f p : ℕ) → b < 14 → f < 3 → p < 2 → Always GoodHeader (restOf known check b f p)
+unfolding restOf Always
+rest-good known check b f p l m n =
+    always-bind (λ mode. mode < 4) GoodHeader modeOf _ mode-small
+    (λ mode k. by-test (Always GoodHeader) (differs known b f mode) _ _ (λ _. tt)
+    (λ _. always-bind (Bounded mode) GoodHeader (boundOf mode check) _ (bound-small mode check)
+    (λ bound h.
+    let z = size-fits b f p check l m n in
+    record { samplerate = m; bitrate = l; mode = k; bound = h .0; mono = h .1; least = z .0; most = z .1 })))
+
+rates-good : (known : Format) (check : Bool) (r : Rates) → Rated r → Always GoodHeader (byRates known check r)
+unfolding Always
+rates-good known check (Known b f p) h = rest-good known check b f p (h .0) (h .1) (h .2)
+rates-good known check (RatesRefused n) h = tt
+
+ident-good : (known : Format) (i : Ident) → Always GoodHeader (byIdent known i)
+unfolding Always
+ident-good known (LayerII check) = always-bind Rated GoodHeader ratesOf _ rates-known (rates-good known check)
+ident-good known (IdentRefused n) = tt
+
+any-ident : Always (λ _. Unit) identOf
+unfolding identOf Always
+any-ident = λ _ _. λ _ _. λ _ _. tt
+
+fields-good : (known : Format) → Always GoodHeader (fieldsOf known)
+unfolding fieldsOf
+fields-good known = always-bind (λ _. Unit) GoodHeader identOf _ any-ident (λ i _. ident-good known i)
+
+start-good : (s : List ℕ) (known : Format) (x : Start) → GoodHeader (byStart s known x .header)
+start-good s known (At r) = always-run GoodHeader (fieldsOf known) s r (fields-good known)
+start-good s known (StartRefused n r) = tt
+
+pub header-good : (s : List ℕ) (r : Reader) (known : Format) → GoodHeader (headerOf s r known .header)
+unfolding headerOf
+header-good s r known = start-good s known (startOf s r)
