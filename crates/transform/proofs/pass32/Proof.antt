@@ -1,0 +1,69 @@
+-- `transform::pass32` meets its contract, by the law of one halving. Assumes nothing.
+use native.Mathlib.Omega.{arith}
+use Rattle.transform.specs.Transform.{factors, usual, other}
+use Rattle.transform.proofs.Halving.{wide}
+use borrow.Author.Needs.{needs}
+use Rattle.transform.proofs.pass32.Statement.{statement}
+use Rattle.transform.proofs.pass32.Tie as tie
+
+slice-aggregate-halve : tie.Need-slice-aggregate-halve
+slice-aggregate-halve c = search needs
+
+slice-aggregate-halve-2 : tie.Need-slice-aggregate-halve-2
+slice-aggregate-halve-2 c = search needs
+
+slice-aggregate-halve-3 : tie.Need-slice-aggregate-halve-3
+slice-aggregate-halve-3 c = search needs
+
+halve-requires : tie.Need-halve-requires
+halve-requires c κs = search needs
+
+slice-aggregate-pass16 : tie.Need-slice-aggregate-pass16
+slice-aggregate-pass16 c = search needs
+
+pass16-requires : tie.Need-pass16-requires
+pass16-requires c κs = search needs
+
+slice-aggregate-pass16-2 : tie.Need-slice-aggregate-pass16-2
+slice-aggregate-pass16-2 c = search needs
+
+pass16-requires-2 : tie.Need-pass16-requires-2
+pass16-requires-2 c κs = search needs
+
+slice-aggregate-weave : tie.Need-slice-aggregate-weave
+slice-aggregate-weave c = search needs
+
+slice-aggregate-weave-2 : tie.Need-slice-aggregate-weave-2
+slice-aggregate-weave-2 c = search needs
+
+weave-requires : tie.Need-weave-requires
+weave-requires c κs = search needs
+
+same-length : tie.Need-same-length
+same-length c = search needs
+
+returns : tie.Need-returns
+unfolding factors
+returns c =
+    let b = c .before .before .before .before .before .before .before in
+    wide 4 usual other _ _ _ _ _ _ (omega arith) (omega arith)
+    (c .before .before .weave .ensures) (b .before .before .before .before .before .before .before .halve .ensures)
+    (b .before .before .before .pass16 .ensures) (b .pass162 .ensures)
+
+pub pass32-spec : {M : Type 1} → statement M
+pass32-spec =
+    tie.close
+    (tie.spec
+    slice-aggregate-halve
+    slice-aggregate-halve-2
+    slice-aggregate-halve-3
+    halve-requires
+    slice-aggregate-pass16
+    pass16-requires
+    slice-aggregate-pass16-2
+    pass16-requires-2
+    slice-aggregate-weave
+    slice-aggregate-weave-2
+    weave-requires
+    same-length
+    returns)
