@@ -2,3 +2,5 @@ pub mod Slots
 pub mod Ring
 pub mod Memory
 pub mod Output
+pub mod Granule
+pub mod Wash

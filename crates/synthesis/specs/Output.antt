@@ -3,7 +3,7 @@
 use mathlib.Core.Path.{_≡_, refl, sym, ap, _∙_, subst}
 use mathlib.Core.List.{List}
 use mathlib.Core.Logic.{_⊎_, inl, inr}
-use Prim.Native.Nat.{ℕ, zero, suc, _+_, _-_, _*_, _≤_, _<_}
+use Prim.Native.Nat.{ℕ, zero, suc, _+_, _-_, _*_, _/_, _%_, _≤_, _<_}
 use native.Mathlib.Nat.{add-zero, add-suc}
 use native.Mathlib.Omega.{arith}
 use native.Mathlib.Decide.{ℕ-discrete}
@@ -147,6 +147,19 @@ module _ (f : ℕ → ℕ → List ℤ) (p : ℕ) (memory output : List Float) (
       → getD (outputAfter f p memory output at n) (at + 64 * k + 1 + 2 * j) nan ≡ outputsAt (f 1) p (rightOf memory) k j
   unfolding outputAfter
   output-right n room k j hk hj = interleaved-right left right output at n room k j hk hj
+
+  -- the same by the place i behind `at`: channel i mod 2, slot i / 64, output (i mod 64) / 2
+  pub output-even : (n : ℕ) → at + 64 * n ≤ length output → (i : ℕ) → i < 64 * n → i % 2 ≡ 0
+      → getD (outputAfter f p memory output at n) (at + i) nan ≡ outputsAt (f 0) p (leftOf memory) (i / 64) (i % 64 / 2)
+  output-even n room i hi even =
+      let e : at + i ≡ at + 64 * (i / 64) + 2 * (i % 64 / 2) = omega arith in
+      rw e (output-left n room (i / 64) (i % 64 / 2) (omega arith) (omega arith))
+
+  pub output-odd : (n : ℕ) → at + 64 * n ≤ length output → (i : ℕ) → i < 64 * n → i % 2 ≡ 1
+      → getD (outputAfter f p memory output at n) (at + i) nan ≡ outputsAt (f 1) p (rightOf memory) (i / 64) (i % 64 / 2)
+  output-odd n room i hi odd =
+      let e : at + i ≡ at + 64 * (i / 64) + 1 + 2 * (i % 64 / 2) = omega arith in
+      rw e (output-right n room (i / 64) (i % 64 / 2) (omega arith) (omega arith))
 
   pub output-alike : (g : ℕ → ℕ → List ℤ) (n : ℕ) → ((ch : ℕ) → ch < 2 → Alike n (f ch) (g ch))
       → outputAfter f p memory output at n ≡ outputAfter g p memory output at n
