@@ -154,11 +154,11 @@ fn as_float(sample: i32) -> f32
 }
 
 fn load(samples: &[i32], values: &mut [f32])
-    requires { ⌜ (length (now values) ≡ length (now samples)) × Small (now samples) ⌝ }
+    requires { ⌜ (length (now values) ≡ 32) × (length (now samples) ≡ 32) × Small (now samples) ⌝ }
     ensures { λ _. ⌜ now (values .exit) ≡ floats (now (samples .entry)) ⌝ }
 {
     let mut i = 0;
-    while i < samples.len() {
+    while i < 32 {
         values[i] = as_float(samples[i]);
         i += 1;
     }

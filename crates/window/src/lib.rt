@@ -1,7 +1,9 @@
 // The synthesis window, and a slot's 32 outputs by it.
 ghost use mathlib.Core.Path.{_≡_};
 ghost use Prim.Native.Nat.{_+_, _%_, _<_, _≤_};
-ghost use lib.ListN.{length};
+ghost use lib.ListN.{length, getD};
+ghost use lib.Ieee.{nan};
+ghost use Rattle.ground.specs.Table.{table};
 ghost use Rattle.window.specs.Window.{windowList};
 ghost use Rattle.window.specs.Output.{Place, taps, outputOf, stores};
 
@@ -559,14 +561,37 @@ fn output_at(window: &[f32; 512], ring: &[f32], p: usize, j: usize) -> f32
     sum / -1090519040.0
 }
 
+// The 32 outputs of the slot at p.
+fn outputs(window: &[f32; 512], ring: &[f32], p: usize, values: &mut [f32])
+    requires { ⌜ (now window ≡ windowList) × (length (now ring) ≡ 1024) × Place p × (length (now values) ≡ 32) ⌝ }
+    ensures { λ _. ⌜ now (values .exit) ≡ table 32 (outputOf (now (ring .entry)) p) ⌝ }
+{
+    let mut j = 0;
+    while j < 32 {
+        values[j] = output_at(window, ring, p, j);
+        j += 1;
+    }
+}
+
+// The values, to every second place of the output from `at` on.
+fn store(values: &[f32], output: &mut [f32], at: usize)
+    requires { ⌜ (length (now values) ≡ 32) × (at + 63 ≤ length (now output)) ⌝ }
+    ensures { λ _. ⌜ now (output .exit) ≡ stores (now (output .entry)) at (λ j. getD (now (values .entry)) j nan) 32 ⌝ }
+{
+    let mut j = 0;
+    while j < 32 {
+        output[at + 2 * j] = values[j];
+        j += 1;
+    }
+}
+
 // The 32 outputs of the slot at p, to every second place of the output from `at` on.
+// They are collected first: next to the lent output the compiler would have to look for overlaps at each slot.
 pub fn window_slot(window: &[f32; 512], ring: &[f32], p: usize, output: &mut [f32], at: usize)
     requires { ⌜ (now window ≡ windowList) × (length (now ring) ≡ 1024) × Place p × (at + 63 ≤ length (now output)) ⌝ }
     ensures { λ _. ⌜ now (output .exit) ≡ stores (now (output .entry)) at (outputOf (now (ring .entry)) p) 32 ⌝ }
 {
-    let mut j = 0;
-    while j < 32 {
-        output[at + 2 * j] = output_at(window, ring, p, j);
-        j += 1;
-    }
+    let mut values = [0.0f32; 32];
+    outputs(window, ring, p, &mut values);
+    store(&values, output, at);
 }

@@ -14,10 +14,10 @@ use Rattle.transform.proofs.load.Statement.{statement}
 use Rattle.transform.proofs.load.Tie as tie
 
 abbrev Inv-loop : tie.InvT-loop
-Inv-loop samples values₀ i₀ values i = (i ≤ length samples) × (length values ≡ length samples) × ((k : ℕ) → k < i → at values k ≡ float-at samples k)
+Inv-loop samples values₀ i₀ values i = (i ≤ 32) × (length values ≡ 32) × ((k : ℕ) → k < i → at values k ≡ float-at samples k)
 
 abbrev μ-loop : tie.MeasureT-loop
-μ-loop samples values₀ i₀ values i = length samples - i
+μ-loop samples values₀ i₀ values i = 32 - i
 
 loop-holds : tie.Need-loop-holds Inv-loop μ-loop
 loop-holds c = (omega arith, omega arith, λ k b. absurd (omega arith))
@@ -32,7 +32,7 @@ as-float-requires : tie.Need-as-float-requires Inv-loop μ-loop
 as-float-requires c κs =
     let s = c .before .before .before .before in
     let i = c .before .before .loop .i in
-    rw (toZ-ofZ w32 (getD (s .args .samples .now) i (pos 0)) (record { sfits = c .as-float-arg .given })) (s .pre .1 i (omega arith))
+    rw (toZ-ofZ w32 (getD (s .args .samples .now) i (pos 0)) (record { sfits = c .as-float-arg .given })) (s .pre .2 i (omega arith))
 
 mul-values : tie.Need-mul-values Inv-loop μ-loop
 mul-values c = omega arith
@@ -64,7 +64,7 @@ unfolding floats
 returns c =
     let samples = c .before .before .before .args .samples .now in
     let l = c .before .loop in
-    is-table nan (length samples) (float-at samples) (l .values) (l .inv .1) (λ k h. l .inv .2 k (omega arith))
+    is-table nan (length samples) (float-at samples) (l .values) (omega arith) (λ k h. l .inv .2 k (omega arith))
 
 pub load-spec : {M : Type 1} → statement M
 load-spec =
