@@ -1,0 +1,24 @@
+-- `codes::read_side` meets its contract.
+use mathlib.Core.Path.{sym}
+use Rattle.grammar.specs.Run.{run-done, andThen}
+use Rattle.codes.specs.Frame.{sideOf}
+use borrow.Author.Needs.{needs}
+use Rattle.codes.proofs.read_side.Statement.{statement}
+use Rattle.codes.proofs.read_side.Tie as tie
+
+allocations-requires : tie.Need-allocations-requires
+allocations-requires c κs = search needs
+
+selectors-requires : tie.Need-selectors-requires
+selectors-requires c κs = search needs
+
+scale-factors-requires : tie.Need-scale-factors-requires
+scale-factors-requires c κs = search needs
+
+returns : tie.Need-returns
+unfolding sideOf
+returns c = andThen _ _ _ _ (c .before .before .before .before .before .before .before .allocations .ensures) (andThen _ _ _ _ (c .before .before .before .before .selectors .ensures) (andThen _ _ _ _ (c .scale-factors .ensures) (sym (run-done _ _ _))))
+
+pub read-side-spec : {M : Type 1} → statement M
+read-side-spec =
+    tie.close (tie.spec allocations-requires selectors-requires scale-factors-requires returns)

@@ -1,0 +1,5 @@
+pub mod Frame
+pub mod Below
+pub mod Values
+pub mod Widths
+pub mod Rows
