@@ -7,9 +7,13 @@ use buffer::Reader;
 use buffer::Skipped;
 use buffer::Sync;
 use buffer::Told;
+use header::Attempt;
+use header::Format;
+use header::Header;
 ghost use mathlib.Core.Path.{_≡_};
 ghost use lib.ListN.{set};
 ghost use Rattle.tag.specs.Answers.{ofHolds, ofRead, ofMoved, ofSkipped, ofTold, ofSync, callOf};
+ghost use Rattle.tag.specs.Headers.{formatOf, ofAttempt, attemptOf, stored};
 
 // 01's number, a value, and the bit position afterwards.
 pub struct Answer {
@@ -167,4 +171,81 @@ pub extern "C" fn tag_reader(
     answer[0] = a.value;
     answer[1] = a.at;
     a.number
+}
+
+// What an attempt at a header gives: 01's number, the bit position afterwards, a format, the pending data size.
+pub struct Headed {
+    pub number: u32,
+    pub at: usize,
+    pub format: Format,
+    pub size: usize,
+}
+
+// The format that four numbers stand for. The mode is 32 bits wide: of a larger number its low 32 bits count.
+fn format(known: &[usize; 4]) -> Format
+    ensures { λ r. ⌜ r ≡ formatOf (now (known .entry)) ⌝ }
+{
+    Format {
+        samplerate: known[0],
+        bitrate: known[1],
+        mode: (known[2] % 4294967296) as u32,
+        bound: known[3],
+    }
+}
+
+fn of_attempt(known: Format, attempt: Attempt) -> Headed
+    ensures { λ r. ⌜ r ≡ ofAttempt known attempt ⌝ }
+{
+    let header = attempt.header;
+    let at = attempt.next.at.0;
+    match header {
+        Header::Accepted(format, size) => Headed {
+            number: 0,
+            at,
+            format,
+            size,
+        },
+        Header::Refused(number) => Headed {
+            number,
+            at,
+            format: known,
+            size: 0,
+        },
+    }
+}
+
+fn header_call(stream: &[u8], at: usize, known: Format) -> Headed
+    ensures { λ r. ⌜ r ≡ attemptOf (now (stream .entry)) at known ⌝ }
+{
+    let reader = Reader { at: BitIndex(at) };
+    of_attempt(known, header::decode_header(stream, reader, known))
+}
+
+fn store(h: Headed, answer: &mut [usize; 6])
+    ensures { λ _. ⌜ now (answer .exit) ≡ stored h (now (answer .entry)) ⌝ }
+{
+    let format = h.format;
+    answer[0] = h.at;
+    answer[1] = format.samplerate;
+    answer[2] = format.bitrate;
+    answer[3] = format.mode as usize;
+    answer[4] = format.bound;
+    answer[5] = h.size;
+}
+
+// One attempt at a header. `known`: sample-rate code (3: no header yet), bit-rate index, mode, bound. Its number is returned; `answer` has
+// the bit position afterwards, the format in the same order, and the pending data size: after a refusal the known format and 0.
+#[no_mangle]
+pub extern "C" fn tag_header(
+    stream: &[u8],
+    at: usize,
+    known: &[usize; 4],
+    answer: &mut [usize; 6],
+) -> u32
+    ensures number { λ r. ⌜ r ≡ attemptOf (now (stream .entry)) at (formatOf (now (known .entry))) .number ⌝ }
+    ensures given { λ _. let h = attemptOf (now (stream .entry)) at (formatOf (now (known .entry))) in ⌜ now (answer .exit) ≡ stored h (now (answer .entry)) ⌝ }
+{
+    let h = header_call(stream, at, format(known));
+    store(h, answer);
+    h.number
 }
