@@ -1,5 +1,4 @@
 pub mod Frame
-pub mod Below
 pub mod Values
 pub mod Widths
 pub mod Rows

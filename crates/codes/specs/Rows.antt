@@ -1,6 +1,6 @@
 -- Row 8 of 01's table of examples, and the 188 bits of 01's frame of zeros, computed. Rows 9 to 13 are in `samples`.
 -- Assumes nothing.
-use Prim.Native.Nat.{ℕ, _+_, _*_, min}
+use Prim.Native.Nat.{ℕ, _+_, _*_}
 use mathlib.Core.Path.{_≡_, refl}
 use mathlib.Core.Bool.{false}
 use mathlib.Core.List.{List, [], _∷_}
@@ -12,7 +12,9 @@ use Rattle.grammar.specs.Reads.{Reads, _>>=_, run, called}
 use Rattle.tables.specs.Standard.{limitOf, chosen, serves, sblimit, rowsOf}
 use Rattle.tables.specs.Source.{rowOf, widthOf, quantiserOf}
 use Rattle.tables.specs.Differences.{tableOf}
-use Rattle.codes.specs.Frame.{bands, pairOf, allocationOf, allocationBandOf, channelsOf, selectorOf, factorsOf, Side, sideOf, placeOf, copied, sampleBandOf, granuleOf, granulesOf, frameOf, cutOf}
+use Rattle.side.specs.Bands.{bands, pairOf, channelsOf}
+use Rattle.side.specs.Side.{cutOf, allocationOf, allocationBandOf, selectorOf, factorsOf, Side, sideOf}
+use Rattle.codes.specs.Frame.{placeOf, copied, sampleBandOf, granuleOf, granulesOf, frameOf}
 
 -- joint stereo with extension 3 has bound 16, and 96 kbit/s at 44.1 kHz the limit 8
 abbrev pub row8 : List ℕ

@@ -6,8 +6,9 @@ use native.Mathlib.Numerals.{add-one}
 use native.Mathlib.Omega.{arith}
 use Rattle.grammar.specs.Reads.{run, ran}
 use Rattle.grammar.specs.Run.{andThen}
-use Rattle.codes.specs.Frame.{bands, samplesFrom}
-use Rattle.codes.specs.Below.{Below, sideWith}
+use Rattle.side.specs.Bands.{bands}
+use Rattle.codes.specs.Frame.{samplesFrom}
+use Rattle.side.specs.Below.{Below, sideWith}
 use Rattle.codes.proofs.read_granule.Statement.{statement}
 use Rattle.codes.proofs.read_granule.Tie as tie
 

@@ -1,7 +1,8 @@
 -- `codes::sample_band` meets its contract.
 use borrow.Author.Tests.{lt-ltb, le-ltb}
 use Rattle.grammar.specs.Run.{run-done, andThen}
-use Rattle.codes.specs.Frame.{pairOf, sampleBandOf}
+use Rattle.side.specs.Bands.{pairOf}
+use Rattle.codes.specs.Frame.{sampleBandOf}
 use borrow.Author.Needs.{needs}
 use mathlib.Core.Path.{ap}
 use Rattle.grammar.specs.Reads.{ran}

@@ -1,10 +1,10 @@
--- `codes::read_selector` meets its contract.
+-- `side::read_selector` meets its contract.
 use borrow.Author.Tests.{eq-eqb, ne-eqb}
 use Rattle.grammar.specs.Run.{run-done, asked}
-use Rattle.codes.specs.Frame.{selectorOf}
+use Rattle.side.specs.Side.{selectorOf}
 use borrow.Author.Needs.{needs}
-use Rattle.codes.proofs.read_selector.Statement.{statement}
-use Rattle.codes.proofs.read_selector.Tie as tie
+use Rattle.side.proofs.read_selector.Statement.{statement}
+use Rattle.side.proofs.read_selector.Tie as tie
 
 element-copy-out-if1 : tie.Need-element-copy-out-if1
 element-copy-out-if1 c = search needs

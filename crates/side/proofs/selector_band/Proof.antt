@@ -1,9 +1,9 @@
--- `codes::selector_band` meets its contract.
+-- `side::selector_band` meets its contract.
 use Rattle.grammar.specs.Run.{run-done, andThen}
-use Rattle.codes.specs.Frame.{pairOf, channelsOf}
+use Rattle.side.specs.Bands.{pairOf, channelsOf}
 use borrow.Author.Needs.{needs}
-use Rattle.codes.proofs.selector_band.Statement.{statement}
-use Rattle.codes.proofs.selector_band.Tie as tie
+use Rattle.side.proofs.selector_band.Statement.{statement}
+use Rattle.side.proofs.selector_band.Tie as tie
 
 read-selector-requires : tie.Need-read-selector-requires
 read-selector-requires c κs = search needs

@@ -1,4 +1,4 @@
--- `codes::allocations` meets its contract.
+-- `side::allocations` meets its contract.
 use borrow.Author.Needs.{needs}
 use Prim.Native.Nat.{_≤_, _-_}
 use mathlib.Core.Path.{_≡_, refl}
@@ -6,9 +6,10 @@ use native.Mathlib.Numerals.{add-one}
 use native.Mathlib.Omega.{arith}
 use Rattle.grammar.specs.Reads.{run, ran}
 use Rattle.grammar.specs.Run.{andThen}
-use Rattle.codes.specs.Frame.{bands, allocationsOf}
-use Rattle.codes.proofs.allocations.Statement.{statement}
-use Rattle.codes.proofs.allocations.Tie as tie
+use Rattle.side.specs.Bands.{bands}
+use Rattle.side.specs.Side.{allocationsOf}
+use Rattle.side.proofs.allocations.Statement.{statement}
+use Rattle.side.proofs.allocations.Tie as tie
 
 abbrev Inv-loop : tie.InvT-loop
 Inv-loop s table bound limit quant₀ quantisers next₀ sb₀ quant next sb =

@@ -3,7 +3,7 @@
 use Prim.Native.Nat.{ℕ, _<_}
 use mathlib.Core.List.{List}
 use lib.ListN.{getD}
-use Rattle.codes.specs.Frame.{Side}
+use Rattle.side.specs.Side.{Side}
 
 pub record Below (m : ℕ) (xs : List ℕ) : Type 0 where
   pub each : (i : ℕ) → getD xs i 0 < m

@@ -1,14 +1,14 @@
--- `codes::read_allocation` meets its contract: an allocation has at most 4 bits.
+-- `side::read_allocation` meets its contract: an allocation has at most 4 bits.
 use Prim.Native.Nat.{_<_, _^_}
 use native.Mathlib.Nat.{lt-of-lt-of-le}
 use lib.Pow.{pow-mono}
 use Rattle.grammar.specs.Reads.{run}
 use Rattle.tables.specs.Source.{widthOf}
 use Rattle.tables.specs.Laws.{width≤4}
-use Rattle.codes.specs.Frame.{allocationOf}
+use Rattle.side.specs.Side.{allocationOf}
 use borrow.Author.Needs.{needs}
-use Rattle.codes.proofs.read_allocation.Statement.{statement}
-use Rattle.codes.proofs.read_allocation.Tie as tie
+use Rattle.side.proofs.read_allocation.Statement.{statement}
+use Rattle.side.proofs.read_allocation.Tie as tie
 
 allocation-bits-requires : tie.Need-allocation-bits-requires
 allocation-bits-requires c κs = search needs

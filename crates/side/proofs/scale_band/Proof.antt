@@ -1,9 +1,9 @@
--- `codes::scale_band` meets its contract.
+-- `side::scale_band` meets its contract.
 use Rattle.grammar.specs.Run.{run-done, andThen}
-use Rattle.codes.specs.Frame.{pairOf, channelsOf}
+use Rattle.side.specs.Bands.{pairOf, channelsOf}
 use borrow.Author.Needs.{needs}
-use Rattle.codes.proofs.scale_band.Statement.{statement}
-use Rattle.codes.proofs.scale_band.Tie as tie
+use Rattle.side.proofs.scale_band.Statement.{statement}
+use Rattle.side.proofs.scale_band.Tie as tie
 
 read-scale-requires : tie.Need-read-scale-requires
 read-scale-requires c κs = search needs

@@ -1,10 +1,10 @@
--- `codes::read_factors` meets its contract: which selector it is decides how many fields there are.
+-- `side::read_factors` meets its contract: which selector it is decides how many fields there are.
 use Rattle.grammar.specs.Reads.{run}
-use Rattle.codes.specs.Frame.{factorsOf}
-use Rattle.codes.proofs.Choices.{factors-last}
+use Rattle.side.specs.Side.{factorsOf}
+use Rattle.side.proofs.Choices.{factors-last}
 use borrow.Author.Needs.{needs}
-use Rattle.codes.proofs.read_factors.Statement.{statement}
-use Rattle.codes.proofs.read_factors.Tie as tie
+use Rattle.side.proofs.read_factors.Statement.{statement}
+use Rattle.side.proofs.read_factors.Tie as tie
 
 field-requires : tie.Need-field-requires
 field-requires c κs = search needs

@@ -1,10 +1,11 @@
--- `codes::allocation_band` meets its contract.
+-- `side::allocation_band` meets its contract.
 use borrow.Author.Tests.{lt-ltb, le-ltb}
 use Rattle.grammar.specs.Run.{run-done, andThen}
-use Rattle.codes.specs.Frame.{pairOf, allocationBandOf}
+use Rattle.side.specs.Bands.{pairOf}
+use Rattle.side.specs.Side.{allocationBandOf}
 use borrow.Author.Needs.{needs}
-use Rattle.codes.proofs.allocation_band.Statement.{statement}
-use Rattle.codes.proofs.allocation_band.Tie as tie
+use Rattle.side.proofs.allocation_band.Statement.{statement}
+use Rattle.side.proofs.allocation_band.Tie as tie
 
 read-allocation-requires : tie.Need-read-allocation-requires
 read-allocation-requires c κs = search needs

@@ -3,7 +3,7 @@
 use Prim.Native.Nat.{ℕ, zero, suc}
 use mathlib.Core.Path.{_≡_, refl}
 use mathlib.Core.List.{List}
-use Rattle.codes.specs.Frame.{factorsOf}
+use Rattle.side.specs.Side.{factorsOf}
 
 pub factors-last : (selector place : ℕ) (xs : List ℕ) → (selector ≡ 0 → ⊥) → (selector ≡ 1 → ⊥) → (selector ≡ 2 → ⊥) → factorsOf selector place xs ≡ factorsOf 3 place xs
 unfolding factorsOf

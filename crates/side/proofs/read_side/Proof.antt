@@ -1,10 +1,10 @@
--- `codes::read_side` meets its contract.
+-- `side::read_side` meets its contract.
 use mathlib.Core.Path.{sym}
 use Rattle.grammar.specs.Run.{run-done, andThen}
-use Rattle.codes.specs.Frame.{sideOf}
+use Rattle.side.specs.Side.{sideOf}
 use borrow.Author.Needs.{needs}
-use Rattle.codes.proofs.read_side.Statement.{statement}
-use Rattle.codes.proofs.read_side.Tie as tie
+use Rattle.side.proofs.read_side.Statement.{statement}
+use Rattle.side.proofs.read_side.Tie as tie
 
 allocations-requires : tie.Need-allocations-requires
 allocations-requires c κs = search needs

@@ -1,9 +1,9 @@
--- `codes::read_scale` meets its contract.
+-- `side::read_scale` meets its contract.
 use borrow.Author.Tests.{eq-eqb, ne-eqb}
 use Rattle.grammar.specs.Run.{run-done}
 use borrow.Author.Needs.{needs}
-use Rattle.codes.proofs.read_scale.Statement.{statement}
-use Rattle.codes.proofs.read_scale.Tie as tie
+use Rattle.side.proofs.read_scale.Statement.{statement}
+use Rattle.side.proofs.read_scale.Tie as tie
 
 element-copy-out-if1 : tie.Need-element-copy-out-if1
 element-copy-out-if1 c = search needs

@@ -1,0 +1,5 @@
+pub mod Bands
+pub mod Side
+pub mod Below
+pub mod Values
+pub mod Widths
