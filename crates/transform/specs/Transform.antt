@@ -1,10 +1,11 @@
 -- `idct36`: 32 samples of a slot become its 64 values. The transform of 2 ^ k values by halving, with the source's factors.
 -- From 01, "From samples to sound"; ISO/IEC 11172-3, 2.4.3.2.2 (matrixing). Assumes nothing.
-use Prim.Native.Nat.{ℕ, zero, suc, _+_, _-_, _/_, _%_, _^_, _<_}
+use Prim.Native.Nat.{ℕ, zero, suc, _+_, _-_, _/_, _%_, _^_, _≤_, _<_}
 use mathlib.Core.Bool.{cond}
 use mathlib.Core.List.{List, [], _∷_}
-use lib.Dec.{T, ltb, eqb}
-use lib.IntN.{ℤ, pos}
+use native.Mathlib.Omega.{arith}
+use lib.Dec.{T, ltb, eqb, le→leb, lt→ltb}
+use lib.IntN.{ℤ, pos, negsuc, natAbs}
 use lib.ListN.{getD, length}
 use lib.Ieee.{Float, nan, binary32, add, sub, mul, neg, ofBits, ofInt, inFloat}
 use mathlib.Core.Path.{_≡_}
@@ -74,6 +75,11 @@ transform (suc k) f d values =
 -- each sample is an f32 exactly: its magnitude is at most 2 ^ 24
 abbrev pub Small : List ℤ → Type 0
 Small samples = (i : ℕ) → i < length samples → T (inFloat binary32 (getD samples i (pos 0)))
+
+pub exact : (n : ℤ) → natAbs n ≤ 2 ^ 24 → T (inFloat binary32 n)
+unfolding inFloat natAbs
+exact (pos n) h = le→leb n (2 ^ 24) h
+exact (negsuc n) h = lt→ltb n (2 ^ 24) (omega arith)
 
 abbrev pub float-at : List ℤ → ℕ → Float
 float-at samples i = ofInt binary32 (getD samples i (pos 0))

@@ -1,0 +1,4 @@
+pub mod Within
+pub mod Halving
+pub mod Sums
+pub mod Run
