@@ -1,86 +1,15 @@
 //! One attempt at a header: number, position, format and data size against the Rust's `decode_header`. The Rust gives
-//! a size or 0. Which of 01's numbers a 0 stands for is told here by a reading of 01 that shares no code with either
-//! side; its position must be the Rust's, so that it can be wrong about the number only where the position cannot tell.
+//! a size or 0; which of 01's numbers a 0 stands for is told by `by_01`, whose position and size must be the Rust's.
 
+use crate::by_01::by_01;
 use crate::seeded::{every, header, Seeded, CLASSES};
-use crate::source::mpeg::audio::{Audio, Format, NO_FORMAT};
+use crate::source::mpeg::audio::Audio;
+use crate::source::{Format, NO_FORMAT};
 use crate::tag;
 use crate::tally::{hex, Tally};
 
 /// 01's farthest position, in bits.
 const FARTHEST: usize = 134_217_736;
-
-/// A stream and a bit position, for the reading of 01.
-struct Fields<'a> {
-    stream: &'a [u8],
-    at: usize,
-}
-
-impl Fields<'_> {
-    fn left(&self) -> usize {
-        (self.stream.len() * 8).saturating_sub(self.at)
-    }
-
-    /// A field, bit by bit; cut off it is 0 and the position stays.
-    fn field(&mut self, width: usize) -> usize {
-        if self.left() < width {
-            return 0;
-        }
-        let mut value = 0;
-        for _ in 0..width {
-            value = value * 2 + (self.stream[self.at / 8] >> (7 - self.at % 8) & 1) as usize;
-            self.at += 1;
-        }
-        value
-    }
-
-    /// Stands behind the first FF FC or FF FD, or one byte past the larger of the start and the last byte.
-    fn search(&mut self) -> bool {
-        let last = self.stream.len().saturating_sub(1);
-        let from = self.at / 8;
-        let pair = |&i: &usize| self.stream[i] == 0xFF && [0xFC, 0xFD].contains(&self.stream[i + 1]);
-        let found = (from..last).find(pair);
-        self.at = found.map_or((from.max(last) + 1) * 8, |i| (i + 1) * 8 + 3);
-        found.is_some()
-    }
-}
-
-/// 01's number for an attempt, and the position that it leaves.
-fn by_01(stream: &[u8], at: usize, known: Format) -> (u32, usize) {
-    let mut r = Fields { stream, at };
-    if r.left() < 48 {
-        return (1, at);
-    }
-    r.at = r.at.div_ceil(8) * 8;
-    while stream.get(r.at / 8) == Some(&0) {
-        r.at += 8;
-    }
-    if r.field(11) != 0b111_1111_1111 && !r.search() {
-        return (2, r.at);
-    }
-    let (version, layer, unprotected) = (r.field(2), r.field(2), r.field(1));
-    if version != 3 || layer != 2 {
-        return (3, r.at);
-    }
-    let bitrate = r.field(4);
-    if bitrate == 0 || bitrate == 15 {
-        return (4, r.at);
-    }
-    let samplerate = r.field(2);
-    if samplerate == 3 {
-        return (5, r.at);
-    }
-    let (_padding, _private, mode) = (r.field(1), r.field(1), r.field(2));
-    let format = (samplerate, bitrate - 1, mode);
-    if known != NO_FORMAT && format != (known.samplerate_index, known.bitrate_index, known.mode) {
-        return (6, r.at);
-    }
-    let (_extension, _flags) = (r.field(2), r.field(4));
-    if unprotected == 0 {
-        r.field(16);
-    }
-    (0, r.at)
-}
 
 /// Both sides, and what has been compared on them.
 struct Sides<'a> {
@@ -96,16 +25,16 @@ impl Sides<'_> {
         let size = self.source.attempt();
         let (after, format) = (self.source.at(), self.source.format());
         let [samplerate, bitrate, mode, bound] = as_numbers(format);
-        let (expected, expected_at) = by_01(stream, at, known);
+        let expected = by_01(stream, at, known);
         let say = || format!("{class}, seed {seed}, at bit {at}, known {known:?}, {}", hex(stream));
         self.tally.same(
-            &format!("number {expected}"),
-            (number, answer, expected_at, expected == 0, samplerate != 3),
+            &format!("number {}", expected.number),
+            (number, answer, expected.at, expected.size, samplerate != 3),
             (
-                expected,
+                expected.number,
                 [after, samplerate, bitrate, mode, bound, size],
                 after,
-                size != 0,
+                size,
                 self.source.knows_header(),
             ),
             say,
@@ -252,6 +181,23 @@ fn seeded_streams(sides: &mut Sides, count: usize) {
     }
 }
 
+/// A mode is 32 bits wide: of a larger number its low 32 bits count, on both sides.
+fn wide_modes(sides: &mut Sides) {
+    for seed in 0..1_000 {
+        let s = &mut Seeded::new(seed);
+        let stream = header(s);
+        let known = own_format(stream[2], stream[3], s);
+        let mode = known.mode + (1 + s.below(9) << 32);
+        sides.attempts(
+            "an earlier mode above 32 bits",
+            seed,
+            &stream,
+            0,
+            Format { mode, ..known },
+        );
+    }
+}
+
 /// 01's refusals 8 and 10, which the Rust does not have.
 fn limits(sides: &mut Sides) {
     const LONGEST: usize = 16_777_216;
@@ -290,5 +236,6 @@ pub fn compare(tally: &mut Tally, count: usize) {
     every_header(&mut sides);
     short_streams(&mut sides);
     seeded_streams(&mut sides, count);
+    wide_modes(&mut sides);
     limits(&mut sides);
 }

@@ -1,24 +1,36 @@
 //! Runs the port and the Rust on the same streams and compares everything they give. See README.md.
 //! `run` compiles the layers that were asked for, so that a library without a later layer's functions links.
 
+#[cfg(layer = "answers")]
+mod answers;
 #[cfg(layer = "bench")]
 mod bench;
+#[cfg(any(layer = "answers", layer = "header"))]
+mod by_01;
 #[cfg(layer = "header")]
 mod header;
 #[cfg(layer = "reader")]
 mod reader;
+#[cfg(not(layer = "answers"))]
 mod seeded;
 mod source;
+#[cfg(not(layer = "answers"))]
 mod tag;
-#[cfg(not(layer = "bench"))]
+#[cfg(not(any(layer = "answers", layer = "bench")))]
 mod tally;
+
+#[cfg(layer = "answers")]
+fn main() -> std::io::Result<()> {
+    let folder = std::env::args().nth(1).expect("a folder of streams");
+    answers::print(folder.as_ref())
+}
 
 #[cfg(layer = "bench")]
 fn main() {
     bench::reader();
 }
 
-#[cfg(not(layer = "bench"))]
+#[cfg(not(any(layer = "answers", layer = "bench")))]
 fn main() {
     let count: Option<usize> = std::env::args().nth(1).and_then(|word| word.parse().ok());
     let mut tally = tally::Tally::default();

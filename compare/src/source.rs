@@ -2,6 +2,22 @@
 //! alone: what is private there can be set and read here, and nothing there is replaced.
 #![allow(dead_code)]
 
+/// The part of the state that a header sets. Sample-rate index 3 means that no header is known.
+#[derive(Clone, Copy, Debug, PartialEq)]
+pub struct Format {
+    pub samplerate_index: usize,
+    pub bitrate_index: usize,
+    pub mode: usize,
+    pub bound: usize,
+}
+
+pub const NO_FORMAT: Format = Format {
+    samplerate_index: 3,
+    bitrate_index: 0,
+    mode: 0,
+    bound: 0,
+};
+
 pub mod mpeg {
     pub mod buffer {
         include!(concat!(env!("SOURCE"), "/crates/native32emu-core/src/mpeg/buffer.rs"));
@@ -21,56 +37,84 @@ pub mod mpeg {
 
     pub mod audio {
         include!(concat!(env!("SOURCE"), "/crates/native32emu-core/src/mpeg/audio.rs"));
+        include!("accessors.rs");
+    }
+}
 
-        /// The part of the state that a header sets. Sample-rate index 3 means that no header is known.
-        #[derive(Clone, Copy, Debug, PartialEq)]
-        pub struct Format {
-            pub samplerate_index: usize,
-            pub bitrate_index: usize,
-            pub mode: usize,
-            pub bound: usize,
+/// The same text of audio.rs over a buffer that hands every call on and remembers two places: a frame's bits are all
+/// between them, and the Rust itself does not count them.
+pub mod traced {
+    pub mod buffer {
+        use crate::source::mpeg::buffer::Buffer as Source;
+        use std::cell::Cell;
+
+        pub struct Buffer {
+            source: Source,
+            asked_at: Cell<usize>,
+            aligned_from: usize,
         }
 
-        pub const NO_FORMAT: Format = Format {
-            samplerate_index: 3,
-            bitrate_index: 0,
-            mode: 0,
-            bound: 0,
-        };
-
-        impl Audio {
-            /// Puts the decoder on a stream, at a bit, with what an earlier header left.
-            pub fn stand(&mut self, stream: &[u8], at: usize, known: Format) {
-                self.buffer = Buffer::new(stream.to_vec());
-                self.buffer.stand(at);
-                self.samplerate_index = known.samplerate_index;
-                self.bitrate_index = known.bitrate_index;
-                self.mode = known.mode as u32;
-                self.bound = known.bound;
-                self.has_header = known.samplerate_index != 3;
-                self.next_frame_data_size = 0;
-            }
-
-            /// One attempt at a header: the data size that `decode_header` gives, 0 for a refusal.
-            pub fn attempt(&mut self) -> usize {
-                self.decode_header()
-            }
-
-            pub fn format(&self) -> Format {
-                Format {
-                    samplerate_index: self.samplerate_index,
-                    bitrate_index: self.bitrate_index,
-                    mode: self.mode as usize,
-                    bound: self.bound,
+        impl Buffer {
+            pub fn new(bytes: Vec<u8>) -> Self {
+                Buffer {
+                    source: Source::new(bytes),
+                    asked_at: Cell::new(0),
+                    aligned_from: 0,
                 }
             }
 
-            pub fn knows_header(&self) -> bool {
-                self.has_header
+            /// The last question of a decode call is the one for the frame's data, at its first allocation bit.
+            pub fn has(&self, count: usize) -> bool {
+                self.asked_at.set(self.source.at());
+                self.source.has(count)
+            }
+
+            /// A frame ends by it, behind its last code.
+            pub fn align(&mut self) {
+                self.aligned_from = self.source.at();
+                self.source.align();
+            }
+
+            pub fn read(&mut self, count: usize) -> u32 {
+                self.source.read(count)
+            }
+
+            pub fn skip(&mut self, count: usize) {
+                self.source.skip(count);
+            }
+
+            pub fn skip_bytes(&mut self, v: u8) -> usize {
+                self.source.skip_bytes(v)
+            }
+
+            pub fn find_frame_sync(&mut self) -> bool {
+                self.source.find_frame_sync()
             }
 
             pub fn at(&self) -> usize {
-                self.buffer.at()
+                self.source.at()
+            }
+
+            pub fn stand(&mut self, at: usize) {
+                self.source.stand(at);
+            }
+
+            /// The place of the last frame's first allocation bit, and the place behind its last code.
+            pub fn frame(&self) -> (usize, usize) {
+                (self.asked_at.get(), self.aligned_from)
+            }
+        }
+    }
+
+    pub mod audio {
+        include!(concat!(env!("SOURCE"), "/crates/native32emu-core/src/mpeg/audio.rs"));
+        include!("accessors.rs");
+
+        impl Audio {
+            /// The last frame's first allocation bit, and the bits that it used.
+            pub fn used(&self) -> (usize, usize) {
+                let (first, last) = self.buffer.frame();
+                (first, last - first)
             }
         }
     }

@@ -1,0 +1,78 @@
+//! The Rust's answers on every stream of a folder, as the program `replay` prints the port's: for each file its name,
+//! then 01's listing, each frame's line with the bits of its start time and a checksum of its samples.
+
+use crate::by_01::{by_01, decode_by_01, Reading};
+use crate::source::traced::audio::Audio;
+use crate::source::NO_FORMAT;
+use std::path::Path;
+
+/// FNV-1a of 64 bits over the bit patterns, low byte first.
+fn checksum(samples: &[f32]) -> u64 {
+    let bytes = samples.iter().flat_map(|sample| sample.to_bits().to_le_bytes());
+    bytes.fold(0xCBF2_9CE4_8422_2325, |sum, byte| {
+        (sum ^ byte as u64).wrapping_mul(0x0000_0100_0000_01B3)
+    })
+}
+
+/// One decode call: its line, and whether it is the last.
+fn call(audio: &mut Audio, stream: &[u8], frames: usize) -> (String, bool) {
+    let told: Reading = decode_by_01(stream, audio.at(), audio.format(), audio.pending());
+    let answer = audio.decode();
+    assert_eq!(answer.is_some(), told.number == 0, "the Rust and 01 differ on {told:?}");
+    let Some(samples) = answer else {
+        assert_eq!((audio.at(), audio.pending()), (told.at, told.size), "after a refusal");
+        let word = if [1, 7].contains(&told.number) {
+            "end"
+        } else {
+            "refused"
+        };
+        return (format!("{word} {} at {}", told.number, told.at / 8), word == "end");
+    };
+    let (first, bits) = audio.used();
+    assert_eq!(first, told.at, "the first allocation bit");
+    let (rate, kbps, mode) = (audio.samplerate(), audio.kbps(), audio.format().mode);
+    let (time, sum) = (samples.time.to_bits(), checksum(&samples.interleaved));
+    let frame = format!(
+        "frame {frames} at {} rate {rate} kbps {kbps} mode {mode} bits {bits}",
+        first / 8
+    );
+    (format!("{frame} time {time:016X} sum {sum:016X}"), false)
+}
+
+/// The listing of one stream: calls until 1 or 7.
+fn listing(stream: &[u8]) -> Vec<String> {
+    let opening = by_01(stream, 0, NO_FORMAT);
+    let mut audio = Audio::new(stream.to_vec());
+    assert_eq!((audio.at(), audio.pending()), (opening.at, opening.size), "the opening");
+    let mut lines = Vec::new();
+    if (2..=5).contains(&opening.number) {
+        lines.push(format!("refused {} at {}", opening.number, opening.at / 8));
+    }
+    let mut frames = 0;
+    loop {
+        let (line, last) = call(&mut audio, stream, frames);
+        frames += line.starts_with("frame") as usize;
+        lines.push(line);
+        if last {
+            return lines;
+        }
+    }
+}
+
+pub fn print(folder: &Path) -> std::io::Result<()> {
+    let mut files = Vec::new();
+    for entry in std::fs::read_dir(folder)? {
+        let path = entry?.path();
+        if path.extension().is_some_and(|extension| extension == "mp2") {
+            files.push(path);
+        }
+    }
+    files.sort();
+    for path in files {
+        println!("{}", path.file_name().unwrap().to_string_lossy());
+        listing(&std::fs::read(&path)?)
+            .iter()
+            .for_each(|line| println!("{line}"));
+    }
+    Ok(())
+}
