@@ -15,7 +15,7 @@ use lib.Ieee.{Float, nan, binary32, add, sub, mul, neg, ofBits, ofInt}
 use Rattle.ground.specs.Table.{table, at-table}
 use Rattle.ground.specs.Tests.{by-test}
 use Rattle.ground.specs.Upto.{upto, below}
-use Rattle.transform.specs.Transform.{at, factors, usual, other, sum-at, difference-at, sumsOf, differencesOf, joined-at, woven-at, wovenOf, transform, float-at, floats, slot-at, slotOf, idct}
+use Rattle.transform.specs.Transform.{at, factorsOf, usual, other, sum-at, difference-at, sumsOf, differencesOf, joined-at, woven-at, wovenOf, transform, float-at, floats, slot-at, slotOf, idct}
 use Rattle.finite.specs.Within.{Within, Factor, factorb, factor-by, rep-power, round-within, within-up, within-either, add-within, sub-within, mul-within, neg-within}
 
 -- ---- bounds that are powers of 2
@@ -55,7 +55,7 @@ all-widen b c n values l a i p = widen b c (at values i) l (a i p)
 
 -- the factors of width 2 ^ (k + 1) are at most 2 ^ k
 pub Tame : Float → Type 0
-Tame f = (k i : ℕ) → k < 5 → i < 2 ^ k → Factor (2 ^ k) 1 (at (factors f k) i)
+Tame f = (k i : ℕ) → k < 5 → i < 2 ^ k → Factor (2 ^ k) 1 (at (factorsOf f k) i)
 
 all-sums : (b h : ℕ) (values : List Float) → suc b ≤ 127 → All b (h + h) values → All (suc b) h (sumsOf h values)
 unfolding sumsOf All
@@ -64,13 +64,13 @@ all-sums b h values l a =
     (λ i p. add-power b (at values i) (at values (h + h - 1 - i)) l (a i (omega arith)) (a (h + h - 1 - i) (omega arith)))
 
 all-differences : (b k : ℕ) (f : Float) (values : List Float) → k < 5 → suc b + k ≤ 127 → Tame f → All b (2 ^ k + 2 ^ k) values
-    → All (suc b + k) (2 ^ k) (differencesOf (2 ^ k) (factors f k) values)
+    → All (suc b + k) (2 ^ k) (differencesOf (2 ^ k) (factorsOf f k) values)
 unfolding differencesOf All Tame
 all-differences b k f values lk l t a =
-    all-table (suc b + k) (2 ^ k) (difference-at (2 ^ k) (factors f k) values)
+    all-table (suc b + k) (2 ^ k) (difference-at (2 ^ k) (factorsOf f k) values)
     (λ i p.
     let far = 2 ^ k + 2 ^ k - 1 - i in
-    mul-power (suc b) k (sub binary32 (at values i) (at values far)) (at (factors f k) i) l
+    mul-power (suc b) k (sub binary32 (at values i) (at values far)) (at (factorsOf f k) i) l
     (sub-power b (at values i) (at values far) (omega arith) (a i (omega arith)) (a far (omega arith))) (t k i lk p))
 
 joined-within : (b h : ℕ) (second : List Float) → suc b ≤ 127 → All b h second → (j : ℕ) → j < h → Within (2 ^ suc b) (joined-at h second j)
@@ -117,14 +117,14 @@ pub transform-within : (k b : ℕ) (f d : Float) (values : List Float) → k ≤
 unfolding transform grown
 transform-within zero b f d values lk l tf td a = a
 transform-within (suc zero) b f d values lk l tf td a =
-    all-pair (suc b) (sumsOf 1 values) (differencesOf 1 (factors f 0) values) (all-sums b 1 values l a)
+    all-pair (suc b) (sumsOf 1 values) (differencesOf 1 (factorsOf f 0) values) (all-sums b 1 values l a)
     (all-widen (suc b + 0) (suc b) 1 _ (omega arith) (all-differences b 0 f values (omega arith) (omega arith) tf a))
 transform-within (suc (suc k)) b f d values lk l tf td a =
     let h = 2 ^ suc k in
     let c = suc b + suc k in
     let up = grown-up (suc k) c in
     let s = sumsOf h values in
-    let t = differencesOf h (factors f (suc k)) values in
+    let t = differencesOf h (factorsOf f (suc k)) values in
     let a′ : All b (h + h) values = subst (λ (n : ℕ). All b n values) (double (suc k)) a in
     subst (λ (n : ℕ). All (suc (grown (suc k) c)) n (wovenOf h (transform (suc k) f f s) (transform (suc k) d d t))) (sym (double (suc k)))
     (all-woven (grown (suc k) c) h (transform (suc k) f f s) (transform (suc k) d d t) l
@@ -134,18 +134,18 @@ transform-within (suc (suc k)) b f d values lk l tf td a =
 
 -- the factors, by a test at each width
 level : Float → ℕ → Bool
-level f k = upto (λ (i : ℕ). factorb (2 ^ k) 1 (at (factors f k) i)) (2 ^ k)
+level f k = upto (λ (i : ℕ). factorb (2 ^ k) 1 (at (factorsOf f k) i)) (2 ^ k)
 
 tame-by : (f : Float) → T (upto (level f) 5) → Tame f
 unfolding Tame level
-tame-by f t k i lk li = factor-by (2 ^ k) 1 _ (below (λ (i : ℕ). factorb (2 ^ k) 1 (at (factors f k) i)) (2 ^ k) (below (level f) 5 t k lk) i li)
+tame-by f t k i lk li = factor-by (2 ^ k) 1 _ (below (λ (i : ℕ). factorb (2 ^ k) 1 (at (factorsOf f k) i)) (2 ^ k) (below (level f) 5 t k lk) i li)
 
 usual-tame : Tame usual
-unfolding level factorb factors ofBits
+unfolding level factorb factorsOf ofBits
 usual-tame = tame-by usual tt
 
 other-tame : Tame other
-unfolding level factorb factors ofBits
+unfolding level factorb factorsOf ofBits
 other-tame = tame-by other tt
 
 -- ---- from samples to a slot

@@ -21,8 +21,8 @@ f32 bits = ofBits binary32 bits
 -- ---- the factors, each the f32 nearest the source's literal
 
 -- row k: those of width 2 ^ (k + 1), 1 / (2 cos (pi (2 i + 1) / 2 ^ (k + 2))), but for the first of width 16, which is given
-unfoldable pub factors : Float → ℕ → List Float
-factors first k =
+unfoldable pub factorsOf : Float → ℕ → List Float
+factorsOf first k =
     getD
     ((f32 0x3f3504f3 ∷ [])
     ∷ (f32 0x3f0a8bd4 ∷ f32 0x3fa73d75 ∷ [])
@@ -68,7 +68,7 @@ wovenOf h first second = table (h + h) (woven-at h first second)
 unfoldable pub transform : ℕ → Float → Float → List Float → List Float
 transform zero f d values = values
 transform (suc k) f d values =
-    wovenOf (2 ^ k) (transform k f f (sumsOf (2 ^ k) values)) (transform k d d (differencesOf (2 ^ k) (factors f k) values))
+    wovenOf (2 ^ k) (transform k f f (sumsOf (2 ^ k) values)) (transform k d d (differencesOf (2 ^ k) (factorsOf f k) values))
 
 -- ---- from 32 samples to the 64 values of a slot
 

@@ -5,9 +5,9 @@ ghost use Prim.Native.Nat.{ℕ, _+_, _≤_, _<_};
 ghost use lib.ListN.{length, take};
 ghost use lib.Dec.{T};
 ghost use lib.Ieee.{Float, binary32, inFloat, ofInt};
-ghost use Rattle.transform.specs.Transform.{at, transform, sumsOf, differencesOf, joined-at, wovenOf, usual, other, Small, floats, slot-at, slotOf, idct};
+ghost use Rattle.transform.specs.Transform.{at, factorsOf, transform, sumsOf, differencesOf, joined-at, wovenOf, usual, other, Small, floats, slot-at, slotOf, idct};
 
-// The factors of the differences at width 32, 8 and 4, as in the source.
+// The factors of the differences at width 32, 16, 8 and 4, as in the source.
 const FACTORS_32: [f32; 16] = [
     0.500602998235,
     0.505470959898,
@@ -25,6 +25,29 @@ const FACTORS_32: [f32; 16] = [
     2.05778100995,
     3.40760841847,
     10.1900081235,
+];
+
+const FACTORS_16: [f32; 8] = [
+    0.502419286188,
+    0.52249861494,
+    0.566944034816,
+    0.64682178336,
+    0.788154623451,
+    1.06067768599,
+    1.72244709824,
+    5.10114861869,
+];
+
+// In the half of the differences the first one of width 16 is another.
+const OTHER_16: [f32; 8] = [
+    0.500602998235,
+    0.52249861494,
+    0.566944034816,
+    0.64682178336,
+    0.788154623451,
+    1.06067768599,
+    1.72244709824,
+    5.10114861869,
 ];
 
 const FACTORS_8: [f32; 4] = [
@@ -111,24 +134,14 @@ fn pass8(values: &mut [f32])
     weave(&sums, &differences, values);
 }
 
-// `factor` is the first one of this width, which in the source is not the same in both halves of the 32.
-fn pass16(values: &mut [f32], factor: f32)
-    requires { ⌜ length (now values) ≡ 16 ⌝ }
-    ensures { λ _. ⌜ now (values .exit) ≡ transform 4 factor factor (now (values .entry)) ⌝ }
+// The first factor of this width is given: in the source it is not the same in both halves of the 32.
+fn pass16(values: &mut [f32], factors: &[f32])
+    requires { ⌜ (length (now values) ≡ 16) × (now factors ≡ factorsOf (at (now factors) 0) 3) ⌝ }
+    ensures { λ _. ⌜ now (values .exit) ≡ transform 4 (at (now (factors .entry)) 0) (at (now (factors .entry)) 0) (now (values .entry)) ⌝ }
 {
-    let factors = [
-        factor,
-        0.52249861494,
-        0.566944034816,
-        0.64682178336,
-        0.788154623451,
-        1.06067768599,
-        1.72244709824,
-        5.10114861869,
-    ];
     let mut sums = [0.0f32; 8];
     let mut differences = [0.0f32; 8];
-    halve(values, &factors, &mut sums, &mut differences);
+    halve(values, factors, &mut sums, &mut differences);
     pass8(&mut sums);
     pass8(&mut differences);
     weave(&sums, &differences, values);
@@ -141,8 +154,8 @@ fn pass32(values: &mut [f32])
     let mut sums = [0.0f32; 16];
     let mut differences = [0.0f32; 16];
     halve(values, &FACTORS_32, &mut sums, &mut differences);
-    pass16(&mut sums, 0.502419286188);
-    pass16(&mut differences, 0.500602998235);
+    pass16(&mut sums, &FACTORS_16);
+    pass16(&mut differences, &OTHER_16);
     weave(&sums, &differences, values);
 }
 

@@ -1,6 +1,10 @@
 -- `transform::pass16` meets its contract, by the law of one halving. Assumes nothing.
+use mathlib.Core.Path.{ap, _∙_}
+use mathlib.Core.List.{List}
 use native.Mathlib.Omega.{arith}
-use Rattle.transform.specs.Transform.{factors}
+use lib.ListN.{length}
+use lib.Ieee.{Float}
+use Rattle.transform.specs.Transform.{at, factorsOf, differencesOf}
 use Rattle.transform.proofs.Halving.{wide}
 use borrow.Author.Needs.{needs}
 use Rattle.transform.proofs.pass16.Statement.{statement}
@@ -12,11 +16,9 @@ slice-aggregate-halve c = search needs
 slice-aggregate-halve-2 : tie.Need-slice-aggregate-halve-2
 slice-aggregate-halve-2 c = search needs
 
-slice-aggregate-halve-3 : tie.Need-slice-aggregate-halve-3
-slice-aggregate-halve-3 c = search needs
-
 halve-requires : tie.Need-halve-requires
-halve-requires c κs = search needs
+unfolding factorsOf
+halve-requires c κs = (omega arith, omega arith, ap length (c .before .before .before .before .before .pre .1), omega arith)
 
 slice-aggregate-pass8 : tie.Need-slice-aggregate-pass8
 slice-aggregate-pass8 c = search needs
@@ -43,13 +45,14 @@ same-length : tie.Need-same-length
 same-length c = search needs
 
 returns : tie.Need-returns
-unfolding factors
 returns c =
-    let x = c .before .before .before .before .before .before .before .before .before .before .before .before .before .before .before .before .before .before .before .before .args .factor in
     let b = c .before .before .before .before .before .before .before in
-    wide 3 x x _ _ _ _ _ _ (omega arith) (omega arith)
-    (c .before .before .weave .ensures) (b .before .before .before .before .before .before .before .halve .ensures)
-    (b .before .before .before .pass8 .ensures x) (b .pass82 .ensures x)
+    let s = c .before .before .before .before .before .before .before .before .before .before .before .before .before .before .before .before .before .before .before .before in
+    let g = b .before .before .before .before .before .before .before .halve .ensures in
+    let f = at (s .args .factors .now) 0 in
+    wide 3 f f _ _ _ _ _ _ (omega arith) (omega arith) (c .before .before .weave .ensures)
+    (g .0, g .1 ∙ ap (λ (z : List Float). differencesOf 8 z (s .args .values .now)) (s .pre .1))
+    (b .before .before .before .pass8 .ensures f) (b .pass82 .ensures f)
 
 pub pass16-spec : {M : Type 1} → statement M
 pass16-spec =
@@ -57,7 +60,6 @@ pass16-spec =
     (tie.spec
     slice-aggregate-halve
     slice-aggregate-halve-2
-    slice-aggregate-halve-3
     halve-requires
     slice-aggregate-pass8
     pass8-requires

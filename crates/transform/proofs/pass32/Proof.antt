@@ -1,6 +1,7 @@
 -- `transform::pass32` meets its contract, by the law of one halving. Assumes nothing.
+use mathlib.Core.Path.{refl}
 use native.Mathlib.Omega.{arith}
-use Rattle.transform.specs.Transform.{factors, usual, other}
+use Rattle.transform.specs.Transform.{factorsOf, usual, other}
 use Rattle.transform.proofs.Halving.{wide}
 use borrow.Author.Needs.{needs}
 use Rattle.transform.proofs.pass32.Statement.{statement}
@@ -21,14 +22,22 @@ halve-requires c κs = search needs
 slice-aggregate-pass16 : tie.Need-slice-aggregate-pass16
 slice-aggregate-pass16 c = search needs
 
-pass16-requires : tie.Need-pass16-requires
-pass16-requires c κs = search needs
-
 slice-aggregate-pass16-2 : tie.Need-slice-aggregate-pass16-2
 slice-aggregate-pass16-2 c = search needs
 
+pass16-requires : tie.Need-pass16-requires
+unfolding factorsOf
+pass16-requires c κs = (omega arith, refl)
+
+slice-aggregate-pass16-3 : tie.Need-slice-aggregate-pass16-3
+slice-aggregate-pass16-3 c = search needs
+
+slice-aggregate-pass16-4 : tie.Need-slice-aggregate-pass16-4
+slice-aggregate-pass16-4 c = search needs
+
 pass16-requires-2 : tie.Need-pass16-requires-2
-pass16-requires-2 c κs = search needs
+unfolding factorsOf
+pass16-requires-2 c κs = (omega arith, refl)
 
 slice-aggregate-weave : tie.Need-slice-aggregate-weave
 slice-aggregate-weave c = search needs
@@ -43,12 +52,11 @@ same-length : tie.Need-same-length
 same-length c = search needs
 
 returns : tie.Need-returns
-unfolding factors
+unfolding factorsOf
 returns c =
     let b = c .before .before .before .before .before .before .before in
-    wide 4 usual other _ _ _ _ _ _ (omega arith) (omega arith)
-    (c .before .before .weave .ensures) (b .before .before .before .before .before .before .before .halve .ensures)
-    (b .before .before .before .pass16 .ensures) (b .pass162 .ensures)
+    wide 4 usual other _ _ _ _ _ _ (omega arith) (omega arith) (c .before .before .weave .ensures) (b .before .before .before .before .before .before .before .before .before .halve .ensures)
+    (b .before .before .before .before .pass16 .ensures) (b .pass162 .ensures)
 
 pub pass32-spec : {M : Type 1} → statement M
 pass32-spec =
@@ -59,8 +67,10 @@ pass32-spec =
     slice-aggregate-halve-3
     halve-requires
     slice-aggregate-pass16
-    pass16-requires
     slice-aggregate-pass16-2
+    pass16-requires
+    slice-aggregate-pass16-3
+    slice-aggregate-pass16-4
     pass16-requires-2
     slice-aggregate-weave
     slice-aggregate-weave-2
