@@ -1,7 +1,7 @@
 -- The transform's values: samples of at most 2 ^ 17 give slot values of at most 2 ^ 36. The bound goes through the definition by halving.
 -- From 01, "From samples to sound". Assumes nothing.
-use mathlib.Core.Path.{_≡_, refl, sym, _∙_, subst}
-use mathlib.Core.Bool.{Bool, true, false, cond}
+use mathlib.Core.Path.{_≡_, sym, _∙_, subst}
+use mathlib.Core.Bool.{Bool, true, false}
 use mathlib.Core.List.{List}
 use Prim.Native.Nat.{ℕ, zero, suc, _+_, _-_, _*_, _/_, _%_, _^_, _≤_, _<_}
 use native.Mathlib.Nat.{le-of-eq, mul-one, pow-suc}
@@ -11,7 +11,7 @@ use lib.Dec.{T, ltb, eqb, lit<, lit≤}
 use lib.Pow.{pow-add, pow-mono}
 use lib.IntN.{ℤ, pos, negsuc, natAbs}
 use lib.ListN.{getD, length}
-use lib.Ieee.{Float, nan, binary32, add, sub, mul, neg, ofBits, ofInt}
+use lib.Ieee.{Float, nan, binary32, add, sub, mul, ofBits, ofInt}
 use Rattle.ground.specs.Table.{table, at-table}
 use Rattle.ground.specs.Tests.{by-test}
 use Rattle.ground.specs.Upto.{upto, below}
@@ -156,7 +156,7 @@ pub record Quiet (samples : List ℤ) : Type 0 where
   pub small : (i : ℕ) → i < 32 → natAbs (getD samples i (pos 0)) ≤ 104848
 
 int-within : (n : ℤ) → natAbs n ≤ 104848 → Within (2 ^ 17) (ofInt binary32 n)
-unfolding ofInt natAbs
+unfolding ofInt
 int-within (pos n) h = round-within false n 1 (2 ^ 17) (lit< tt) (omega arith) (rep-power 17 (lit≤ tt))
 int-within (negsuc n) h = round-within true (suc n) 1 (2 ^ 17) (lit< tt) (omega arith) (rep-power 17 (lit≤ tt))
 

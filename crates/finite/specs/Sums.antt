@@ -30,7 +30,7 @@ halves-at (n ∷ more) t zero h = factor-by (natAbs n) 2 (half n) (and-left (fac
 halves-at (n ∷ more) t (suc i) h = halves-at more (and-right (factorb (natAbs n) 2 (half n)) (halves more) t) i (omega arith)
 
 halves-test : T (halves standardD)
-unfolding halves factorb half standardD mul ofInt natAbs
+unfolding halves factorb half standardD mul ofInt
 halves-test = tt
 
 count : length standardD ≡ 512
@@ -55,7 +55,7 @@ light : ℕ → Bool
 light w = leb (weight w 8 + weight (w + 32) 8) 262144
 
 all-light : T (upto light 544)
-unfolding light weight weightAt standardD natAbs
+unfolding light weight weightAt standardD
 all-light = tt
 
 sixteen : (w : ℕ) → w < 544 → weight w 8 + weight (w + 32) 8 ≤ 262144

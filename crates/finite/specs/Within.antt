@@ -1,7 +1,7 @@
 -- A float that is finite and of a magnitude at most n, and what the operations make of such a bound. A bound that is itself a value of
 -- the format survives the rounding, since rounding keeps the order. Assumes nothing.
 use mathlib.Core.Path.{_≡_, refl, sym, ap, _∙_, subst}
-use mathlib.Core.Bool.{Bool, true, false, cond, true≢false, Bool·beq, _&&_, _||_, not}
+use mathlib.Core.Bool.{Bool, true, false, cond, true≢false, Bool·beq, _&&_, _||_}
 use Prim.Native.Nat.{ℕ, zero, suc, _+_, _-_, _*_, _^_, _≤_, _<_, zero-le}
 use native.Mathlib.Nat.{le-trans, le-of-eq, le-of-lt, mul-one, one-mul, mul-assoc, mul-comm, mul-left-comm, mul-right-comm, add-mul, mul-pos, mul-le-mul-right, mul-le-mul, le-of-mul-le-mul-right}
 use native.Mathlib.Omega.{arith}

@@ -1,13 +1,12 @@
 -- The memory's halves and the ring's part, lent one after the other: what comes back is a slot, and a turn of a run of slots.
 -- From 01, "From samples to sound". Assumes nothing.
-use mathlib.Core.Path.{_≡_, refl, sym, ap, _∙_}
+use mathlib.Core.Path.{_≡_, refl, ap, _∙_}
 use mathlib.Core.List.{List, _++_}
 use Prim.Native.Nat.{ℕ, suc, _+_, _-_, _*_, _≤_, _<_}
-use native.Mathlib.Nat.{add-zero}
 use native.Mathlib.Numerals.{add-one}
 use native.Mathlib.Omega.{arith}
 use lib.IntN.{ℤ, pos}
-use lib.ListN.{length, take, drop, getD, length-drop}
+use lib.ListN.{length, take, drop, length-drop}
 use lib.Seq.{take-at, drop-at, drop-drop, getD-take, getD-drop, length-take-le}
 use lib.Ieee.{Float}
 use borrow.Rule.Slice.PartMut.{putMid, midOf}

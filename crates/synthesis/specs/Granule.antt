@@ -1,6 +1,6 @@
 -- A frame is twelve granules: one granule more, after n slots, is three slots more of the run. For the loop of a caller.
 -- From 01, "From a header to codes" (12 granules) and "From samples to sound". Assumes nothing.
-use mathlib.Core.Path.{_≡_, ap, _∙_}
+use mathlib.Core.Path.{_≡_}
 use mathlib.Core.List.{List}
 use Prim.Native.Nat.{ℕ, _+_, _*_, _≤_, _<_}
 use lib.IntN.{ℤ}

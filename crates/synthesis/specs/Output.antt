@@ -12,7 +12,7 @@ use lib.ListN.{length, getD, set, length-set}
 use lib.Seq.{getD-set-same, getD-set-other}
 use lib.Ieee.{Float, nan}
 use Rattle.window.specs.Output.{Place, stores}
-use Rattle.synthesis.specs.Slots.{positionAfter, ringAfter, outputsAt, leftOf, rightOf, interleaved, memoryAfter, outputAfter}
+use Rattle.synthesis.specs.Slots.{positionAfter, outputsAt, leftOf, rightOf, interleaved, memoryAfter, outputAfter}
 use Rattle.synthesis.specs.Ring.{Alike, outputs-alike, outputs-add, from}
 use Rattle.synthesis.specs.Memory.{memory-left, memory-right}
 

@@ -1,6 +1,6 @@
 -- What a ring held before sixteen slots has no part in what it holds after them, nor in the outputs from the sixteenth slot on.
 -- From 01's third demand, as far as the synthesis goes. Assumes nothing.
-use mathlib.Core.Path.{_≡_, refl, sym, ap, _∙_, subst}
+use mathlib.Core.Path.{_≡_, sym, ap, _∙_, subst}
 use mathlib.Core.List.{List}
 use Prim.Native.Nat.{ℕ, zero, suc, _+_, _-_, _*_, _/_, _%_, _≤_, _<_}
 use native.Mathlib.Omega.{arith}

@@ -77,7 +77,7 @@ abbrev pub Small : List ℤ → Type 0
 Small samples = (i : ℕ) → i < length samples → T (inFloat binary32 (getD samples i (pos 0)))
 
 pub exact : (n : ℤ) → natAbs n ≤ 2 ^ 24 → T (inFloat binary32 n)
-unfolding inFloat natAbs
+unfolding inFloat
 exact (pos n) h = le→leb n (2 ^ 24) h
 exact (negsuc n) h = lt→ltb n (2 ^ 24) (omega arith)
 

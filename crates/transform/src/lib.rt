@@ -100,6 +100,8 @@ fn weave(first: &[f32], second: &[f32], values: &mut [f32])
     }
 }
 
+// The transform at each width, in place, by that of half the width. Below width 16 the two halves of the 32 have the same
+// factors, so that what is promised holds for any f.
 fn pass2(values: &mut [f32])
     requires { ⌜ length (now values) ≡ 2 ⌝ }
     ensures { λ _. ⌜ ((f : Float) → now (values .exit) ≡ transform 1 f f (now (values .entry))) ⌝ }

@@ -5,7 +5,7 @@ use mathlib.Core.List.{List}
 use lib.ListN.{getD}
 use lib.Ieee.{Float, nan}
 use Rattle.ground.specs.Table.{at-table}
-use Rattle.window.specs.Output.{stores, outputOf}
+use Rattle.window.specs.Output.{outputOf}
 use Rattle.window.proofs.Stores.{stores-alike}
 use borrow.Author.Needs.{needs}
 use Rattle.window.proofs.window_slot.Statement.{statement}
