@@ -14,11 +14,14 @@ use Rattle.samples.specs.declared.Three.{Three}
 use Rattle.side.specs.Bands.{bands, pairOf, allocatedOf, three}
 use Rattle.side.specs.Side.{Side, sideOf}
 
--- one code holds three digits, or there is a code for each of three slots
+-- three codes, one for each slot
+unfoldable pub singlesOf : ℕ → Reads Three
+singlesOf bits = ask bits λ a. ask bits λ b. ask bits λ c. done (record { first = a; second = b; third = c })
+
+-- one code holds three digits, or each slot has its own
 unfoldable pub codesOf : ℕ → Reads Three
 codesOf q =
-    cond (groupedOf q) (ask (codeBitsOf q) λ v. done (digitsOf (levelsOf q) v))
-    (ask (codeBitsOf q) λ a. ask (codeBitsOf q) λ b. ask (codeBitsOf q) λ c. done (record { first = a; second = b; third = c }))
+    cond (groupedOf q) (ask (codeBitsOf q) λ v. done (digitsOf (levelsOf q) v)) (singlesOf (codeBitsOf q))
 
 -- the three samples of a place
 unfoldable pub samplesOf : ℕ → ℕ → ℕ → List ℤ → Reads (List ℤ)

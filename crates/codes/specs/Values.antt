@@ -21,7 +21,7 @@ use Rattle.side.specs.Bands.{three}
 use Rattle.side.specs.Below.{Below}
 use Rattle.side.specs.Side.{Side, sideOf}
 use Rattle.side.specs.Values.{bands-always, pair-always, allocated-always, Ranged, side-ranged}
-use Rattle.codes.specs.Frame.{codesOf, samplesOf, placeOf, copied, sampleBandOf, granuleOf, granulesOf, frameOf}
+use Rattle.codes.specs.Frame.{codesOf, singlesOf, samplesOf, placeOf, copied, sampleBandOf, granuleOf, granulesOf, frameOf}
 
 -- the codes of a quantiser
 pub record Small (m : ℕ) (c : Three) : Type 0 where
@@ -43,7 +43,7 @@ unfolding mostOf
 most-single q g = rw g
 
 pub codes-small : (q : ℕ) → 0 < q → q < 18 → Always (Small (mostOf q)) (codesOf q)
-unfolding codesOf Always
+unfolding codesOf singlesOf Always
 codes-small q p h =
     let l = levelsOf q in
     let z = sized q p h in

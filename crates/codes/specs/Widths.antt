@@ -17,10 +17,10 @@ use Rattle.tables.specs.Standard.{codeBitsOf, groupedOf}
 use Rattle.tables.specs.Laws.{bits≤16}
 use Rattle.side.specs.Side.{Side, sideOf}
 use Rattle.side.specs.Widths.{bands-narrow, pair-narrow, allocated-narrow, side-narrow}
-use Rattle.codes.specs.Frame.{codesOf, samplesOf, placeOf, sampleBandOf, granuleOf, granulesOf, frameOf}
+use Rattle.codes.specs.Frame.{codesOf, singlesOf, samplesOf, placeOf, sampleBandOf, granuleOf, granulesOf, frameOf}
 
 codes-narrow : (q : ℕ) → Narrow (codesOf q)
-unfolding codesOf Narrow
+unfolding codesOf singlesOf Narrow
 codes-narrow q =
     let b : codeBitsOf q ≤ 32 = omega (arith, bits≤16 q) in
     by-test Narrow (groupedOf q) _ _ (λ _. (b, λ _. tt)) (λ _. (b, λ _. (b, λ _. (b, λ _. tt))))

@@ -6,7 +6,8 @@ ghost use Prim.Native.Nat.{_≤_, _<_};
 ghost use Rattle.grammar.specs.Reads.{run, ran};
 ghost use Rattle.side.specs.Bands.{three};
 ghost use Rattle.side.specs.Below.{Below, sideWith};
-ghost use Rattle.codes.specs.Frame.{codesOf, samplesOf, placeOf, copied, sampleBandOf, samplesFrom};
+ghost use Rattle.codes.specs.Three.{cutOf};
+ghost use Rattle.codes.specs.Frame.{singlesOf, codesOf, samplesOf, placeOf, copied, sampleBandOf, samplesFrom};
 
 // Three codes of one place, and the reader after them.
 struct Codes {
@@ -14,20 +15,11 @@ struct Codes {
     reader: Reader,
 }
 
-fn read_codes(reader: Reader, s: &[u8], q: usize) -> Codes
-    requires { ⌜ q < 18 ⌝ }
-    ensures { λ r. ⌜ ran (r .codes) (r .reader) ≡ run (codesOf q) (now (s .entry)) reader ⌝ }
+fn read_singles(reader: Reader, s: &[u8], bits: usize) -> Codes
+    ensures { λ r. ⌜ ran (r .codes) (r .reader) ≡ run (singlesOf bits) (now (s .entry)) reader ⌝ }
 {
-    let bits = tables::code_bits(q);
     let a = reader.field(s, bits);
     let next = a.next;
-    if tables::grouped(q) {
-        let codes = samples::digits(tables::levels(q), a.value);
-        return Codes {
-            codes,
-            reader: next,
-        };
-    }
     let b = next.field(s, bits);
     let after = b.next;
     let c = after.field(s, bits);
@@ -40,6 +32,55 @@ fn read_codes(reader: Reader, s: &[u8], q: usize) -> Codes
         },
         reader: last,
     }
+}
+
+// The three numbers of `bits` bits in one of three times as many.
+fn cut_in_three(value: u32, bits: usize) -> Three
+    requires { ⌜ bits ≤ 10 ⌝ }
+    ensures { λ r. ⌜ r ≡ cutOf value bits ⌝ }
+{
+    let size = 1u32 << bits;
+    let rest = value >> bits;
+    Three {
+        first: rest >> bits,
+        second: rest % size,
+        third: value % size,
+    }
+}
+
+// Where the codes are narrow and all there, one read takes the three of them.
+fn read_three(reader: Reader, s: &[u8], bits: usize) -> Codes
+    ensures { λ r. ⌜ ran (r .codes) (r .reader) ≡ run (singlesOf bits) (now (s .entry)) reader ⌝ }
+{
+    if bits <= 10 {
+        let f = reader.field(s, 3 * bits);
+        let next = f.next;
+        if next.at.0 != reader.at.0 {
+            let codes = cut_in_three(f.value, bits);
+            return Codes {
+                codes,
+                reader: next,
+            };
+        }
+    }
+    read_singles(reader, s, bits)
+}
+
+fn read_codes(reader: Reader, s: &[u8], q: usize) -> Codes
+    requires { ⌜ q < 18 ⌝ }
+    ensures { λ r. ⌜ ran (r .codes) (r .reader) ≡ run (codesOf q) (now (s .entry)) reader ⌝ }
+{
+    let bits = tables::code_bits(q);
+    if tables::grouped(q) {
+        let f = reader.field(s, bits);
+        let next = f.next;
+        let codes = samples::digits(tables::levels(q), f.value);
+        return Codes {
+            codes,
+            reader: next,
+        };
+    }
+    read_three(reader, s, bits)
 }
 
 fn store_samples(sample: &mut [i32; 192], place: usize, x: i32, y: i32, z: i32)
