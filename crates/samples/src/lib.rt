@@ -18,10 +18,11 @@ fn split(levels: u32, code: u32) -> Three
     ensures { λ r. ⌜ r ≡ digitsOf levels code ⌝ }
 {
     let rest = code / levels;
+    let third = rest / levels;
     Three {
-        first: code % levels,
-        second: rest % levels,
-        third: rest / levels,
+        first: code - rest * levels,
+        second: rest - third * levels,
+        third,
     }
 }
 
