@@ -45,4 +45,63 @@ impl Audio {
     pub fn at(&self) -> usize {
         self.buffer.at()
     }
+
+    /// Decodes a frame from where the decoder stands, whether or not its data is there.
+    pub fn frame(&mut self) {
+        self.decode_frame();
+    }
+
+    /// What the last frame left: the quantiser, 0 to 17, the selector and the three scale-factor indexes of a place.
+    pub fn place(&self, ch: usize, sb: usize) -> (usize, u8, [i32; 3]) {
+        let of = |q: &QuantSpec| 1 + QUANT_TAB.iter().position(|known| known.levels == q.levels).unwrap();
+        (
+            self.allocation[ch][sb].map_or(0, of),
+            self.scale_factor_info[ch][sb],
+            self.scale_factor[ch][sb],
+        )
+    }
+
+    /// A granule's samples from bit `at`, by `read_samples`, with the last frame's allocations and scale factors.
+    pub fn granule(&mut self, at: usize, part: usize, bound: usize, limit: usize) {
+        self.buffer.stand(at);
+        for sb in 0..limit {
+            self.read_samples(0, sb, part);
+            if sb < bound {
+                self.read_samples(1, sb, part);
+            } else {
+                self.sample[1][sb] = self.sample[0][sb];
+            }
+        }
+    }
+
+    /// The last granule's samples in the port's order: slot by slot, the left channel's 32, then the right's.
+    pub fn samples(&self) -> [i32; 192] {
+        std::array::from_fn(|i| self.sample[i / 32 % 2][i % 32][i / 64])
+    }
+
+    /// Sets the ring position and the memory, left channel first.
+    pub fn sound_from(&mut self, ring: usize, memory: &[f32]) {
+        self.v_pos = ring as i32;
+        self.v[0].copy_from_slice(&memory[..1024]);
+        self.v[1].copy_from_slice(&memory[1024..2048]);
+    }
+
+    pub fn ring(&self) -> usize {
+        self.v_pos as usize
+    }
+
+    pub fn memory(&self) -> Vec<f32> {
+        self.v.concat()
+    }
+
+    /// What the last frame sounds like.
+    pub fn output(&self) -> &[f32] {
+        &self.interleaved
+    }
+}
+
+/// The source's transform: slot `slot` of a granule in the port's order, one channel, into the ring from `p`.
+pub fn transform(samples: &[i32; 192], slot: usize, ch: usize, ring: &mut [f32], p: usize) {
+    let of = std::array::from_fn(|sb| std::array::from_fn(|k| samples[64 * k + 32 * ch + sb]));
+    idct36(&of, slot, ring, p);
 }

@@ -7,12 +7,18 @@ mod answers;
 mod bench;
 #[cfg(any(layer = "answers", layer = "header"))]
 mod by_01;
+#[cfg(layer = "codes")]
+mod codes;
+#[cfg(any(layer = "codes", layer = "sound"))]
+mod frames;
 #[cfg(layer = "header")]
 mod header;
 #[cfg(layer = "reader")]
 mod reader;
 #[cfg(not(layer = "answers"))]
 mod seeded;
+#[cfg(layer = "sound")]
+mod sound;
 mod source;
 #[cfg(not(layer = "answers"))]
 mod tag;
@@ -38,5 +44,9 @@ fn main() {
     reader::compare(&mut tally, count.unwrap_or(2_000_000));
     #[cfg(layer = "header")]
     header::compare(&mut tally, count.unwrap_or(400_000));
+    #[cfg(layer = "codes")]
+    codes::compare(&mut tally, count.unwrap_or(205_800));
+    #[cfg(layer = "sound")]
+    sound::compare(&mut tally, count.unwrap_or(1_000_000));
     std::process::exit(tally.close());
 }

@@ -1,5 +1,5 @@
 //! Seeded numbers and streams. The same seed gives the same stream on every machine.
-#![cfg_attr(layer = "bench", allow(dead_code))]
+#![allow(dead_code)]
 
 /// Xorshift, 64 bits.
 pub struct Seeded(u64);

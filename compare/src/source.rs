@@ -41,8 +41,8 @@ pub mod mpeg {
     }
 }
 
-/// The same text of audio.rs over a buffer that hands every call on and remembers two places: a frame's bits are all
-/// between them, and the Rust itself does not count them.
+/// The same text of audio.rs over a buffer that hands every call on and remembers places: where a frame's data was
+/// asked for, where each read began, and where the frame was aligned. The Rust itself does not count bits.
 pub mod traced {
     pub mod buffer {
         use crate::source::mpeg::buffer::Buffer as Source;
@@ -51,6 +51,7 @@ pub mod traced {
         pub struct Buffer {
             source: Source,
             asked_at: Cell<usize>,
+            reads: Vec<usize>,
             aligned_from: usize,
         }
 
@@ -59,6 +60,7 @@ pub mod traced {
                 Buffer {
                     source: Source::new(bytes),
                     asked_at: Cell::new(0),
+                    reads: Vec::new(),
                     aligned_from: 0,
                 }
             }
@@ -76,6 +78,7 @@ pub mod traced {
             }
 
             pub fn read(&mut self, count: usize) -> u32 {
+                self.reads.push(self.source.at());
                 self.source.read(count)
             }
 
@@ -95,13 +98,20 @@ pub mod traced {
                 self.source.at()
             }
 
+            /// Puts the position at a bit, and forgets the reads.
             pub fn stand(&mut self, at: usize) {
                 self.source.stand(at);
+                self.reads.clear();
             }
 
             /// The place of the last frame's first allocation bit, and the place behind its last code.
             pub fn frame(&self) -> (usize, usize) {
                 (self.asked_at.get(), self.aligned_from)
+            }
+
+            /// Where read `n` since `stand` began; the place behind the last code if there were no more.
+            pub fn began(&self, n: usize) -> usize {
+                self.reads.get(n).copied().unwrap_or(self.aligned_from)
             }
         }
     }
@@ -115,6 +125,11 @@ pub mod traced {
             pub fn used(&self) -> (usize, usize) {
                 let (first, last) = self.buffer.frame();
                 (first, last - first)
+            }
+
+            /// Where read `n` of a frame began, its first allocation being read 0.
+            pub fn began(&self, n: usize) -> usize {
+                self.buffer.began(n)
             }
         }
     }

@@ -1,4 +1,4 @@
-//! The static library's functions, with a slice passed as a pointer and a length, an array as a pointer.
+//! The static libraries' functions, with a slice passed as a pointer and a length, an array as a pointer.
 
 mod boundary {
     extern "C" {
@@ -21,6 +21,42 @@ mod boundary {
             known: *const [usize; 4],
             answer: *mut [usize; 6],
         ) -> u32;
+        #[cfg(any(layer = "codes", layer = "sound"))]
+        pub fn probe_layout(mode: u32, bitrate: usize, samplerate: usize, bound: usize, answer: *mut [usize; 3]);
+        #[cfg(any(layer = "codes", layer = "sound"))]
+        pub fn probe_side(
+            stream: *const u8,
+            length: usize,
+            at: usize,
+            mono: bool,
+            table: usize,
+            bound: usize,
+            limit: usize,
+            quant: *mut [u8; 64],
+            factor: *mut [u32; 192],
+        ) -> usize;
+        #[cfg(any(layer = "codes", layer = "sound"))]
+        pub fn probe_granule(
+            stream: *const u8,
+            length: usize,
+            at: usize,
+            quant: *const [u8; 64],
+            factor: *const [u32; 192],
+            part: usize,
+            bound: usize,
+            limit: usize,
+            sample: *mut [i32; 192],
+        ) -> usize;
+        #[cfg(layer = "sound")]
+        pub fn probe_synthesize(
+            memory: *mut f32,
+            memory_length: usize,
+            p: usize,
+            sample: *const [i32; 192],
+            output: *mut f32,
+            output_length: usize,
+            at: usize,
+        ) -> usize;
     }
 }
 
@@ -44,4 +80,84 @@ pub fn header(stream: &[u8], at: usize, known: [usize; 4]) -> (u32, [usize; 6]) 
     let mut answer = [usize::MAX; 6];
     let number = unsafe { boundary::tag_header(stream.as_ptr(), stream.len(), at, &known, &mut answer) };
     (number, answer)
+}
+
+/// What the port reads of a frame.
+#[cfg(any(layer = "codes", layer = "sound"))]
+#[cfg_attr(layer = "sound", allow(dead_code))]
+pub struct Read {
+    /// The limit of subbands and the bound, cut to it.
+    pub limit: usize,
+    pub bound: usize,
+    pub quant: [u8; 64],
+    pub factor: [u32; 192],
+    /// The place behind the side information, and behind each granule.
+    pub ends: [usize; 13],
+    pub samples: [[i32; 192]; 12],
+}
+
+/// A frame of that format from bit `at`.
+#[cfg(any(layer = "codes", layer = "sound"))]
+pub fn frame(stream: &[u8], at: usize, format: crate::source::Format) -> Read {
+    let mut layout = [0; 3];
+    let mode = format.mode as u32;
+    unsafe {
+        boundary::probe_layout(
+            mode,
+            format.bitrate_index,
+            format.samplerate_index,
+            format.bound,
+            &mut layout,
+        )
+    };
+    let [limit, table, bound] = layout;
+    let (data, length) = (stream.as_ptr(), stream.len());
+    let (mut quant, mut factor) = ([0xFF; 64], [u32::MAX; 192]);
+    let mut end = unsafe {
+        boundary::probe_side(
+            data,
+            length,
+            at,
+            mode == 3,
+            table,
+            bound,
+            limit,
+            &mut quant,
+            &mut factor,
+        )
+    };
+    let mut ends = [end; 13];
+    let samples = std::array::from_fn(|granule| {
+        let mut sample = [0; 192];
+        end = unsafe {
+            boundary::probe_granule(
+                data,
+                length,
+                end,
+                &quant,
+                &factor,
+                granule / 4,
+                bound,
+                limit,
+                &mut sample,
+            )
+        };
+        ends[granule + 1] = end;
+        sample
+    });
+    Read {
+        limit,
+        bound,
+        quant,
+        factor,
+        ends,
+        samples,
+    }
+}
+
+/// A granule's sound, to the output from `at` on; gives the ring position after it.
+#[cfg(layer = "sound")]
+pub fn synthesize(memory: &mut [f32], p: usize, sample: &[i32; 192], output: &mut [f32], at: usize) -> usize {
+    let (ring, room) = (memory.len(), output.len());
+    unsafe { boundary::probe_synthesize(memory.as_mut_ptr(), ring, p, sample, output.as_mut_ptr(), room, at) }
 }
