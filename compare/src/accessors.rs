@@ -94,6 +94,11 @@ impl Audio {
         self.v.concat()
     }
 
+    /// How many frames were decoded, and when the next one starts, in seconds.
+    pub fn clock(&self) -> (usize, f64) {
+        (self.samples_decoded as usize / SAMPLES_PER_FRAME, self.time)
+    }
+
     /// What the last frame sounds like.
     pub fn output(&self) -> &[f32] {
         &self.interleaved

@@ -5,11 +5,13 @@
 mod answers;
 #[cfg(layer = "bench")]
 mod bench;
-#[cfg(any(layer = "answers", layer = "header"))]
+#[cfg(any(layer = "answers", layer = "header", layer = "decode"))]
 mod by_01;
 #[cfg(layer = "codes")]
 mod codes;
-#[cfg(any(layer = "codes", layer = "sound"))]
+#[cfg(layer = "decode")]
+mod decode;
+#[cfg(any(layer = "codes", layer = "sound", layer = "decode"))]
 mod frames;
 #[cfg(layer = "header")]
 mod header;
@@ -48,5 +50,7 @@ fn main() {
     codes::compare(&mut tally, count.unwrap_or(205_800));
     #[cfg(layer = "sound")]
     sound::compare(&mut tally, count.unwrap_or(1_000_000));
+    #[cfg(layer = "decode")]
+    decode::compare(&mut tally, count.unwrap_or(100_000));
     std::process::exit(tally.close());
 }
