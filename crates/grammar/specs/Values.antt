@@ -29,3 +29,12 @@ always-run P (ask n k) s r h =
 pub learnt : {A : Type 0} (P : A → Type 0) (m : Reads A) (s : List ℕ) (r : Reader) {r′ : Reader} {a : A} →
     ran a r′ ≡ run m s r → Always P m → P a
 learnt P m s r e h = subst (λ y. P (y .value)) (sym e) (always-run P m s r h)
+
+-- nothing is asked of a value
+unfoldable pub anything : {A : Type 0} → A → Type 0
+anything x = Unit
+
+pub always-anything : {A : Type 0} (m : Reads A) → Always anything m
+unfolding Always anything
+always-anything (done a) = tt
+always-anything (ask n k) = λ v _. always-anything (k v)

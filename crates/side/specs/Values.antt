@@ -10,7 +10,7 @@ use lib.Dec.{eqb, lit<}
 use lib.ListN.{getD, set, replicate}
 use Rattle.ground.specs.Tests.{by-test}
 use Rattle.grammar.specs.Reads.{Reads, done, ask, _>>=_}
-use Rattle.grammar.specs.Values.{Always, always-bind}
+use Rattle.grammar.specs.Values.{Always, always-bind, anything, always-anything}
 use Rattle.tables.specs.Laws.{quantiser<18}
 use Rattle.samples.specs.Sample.{factorOf}
 use Rattle.samples.specs.Bounds.{factor-small}
@@ -90,14 +90,6 @@ factors-below (suc (suc (suc n))) place xs p = λ a ha b hb. three-below _ xs pl
 pub record Ranged (side : Side) : Type 0 where
   pub quant : Below 18 (side .quant)
   pub factor : Below 33554433 (side .factor)
-
-anything : {A : Type 0} → A → Type 0
-anything x = Unit
-
-always-anything : {A : Type 0} (m : Reads A) → Always anything m
-unfolding Always anything
-always-anything (done a) = tt
-always-anything (ask n k) = λ v _. always-anything (k v)
 
 pub side-ranged : (mono : Bool) (table bound limit : ℕ) → Always Ranged (sideOf mono table bound limit)
 unfolding sideOf Always

@@ -1,0 +1,64 @@
+-- What a call asks before a frame is decoded: a header, pending or sought (1 to 6), and its data (7).
+-- From 01, "Numbers a call can give": order 8, 9, 10, then 1 to 6 as the header is read, then 7.
+use Prim.Native.Nat.{ℕ, _*_}
+use mathlib.Core.Bool.{cond}
+use mathlib.Core.List.{List}
+use lib.Dec.{eqb, ltb}
+use lib.ListN.{length}
+use Rattle.buffer.specs.Calls.{hasOf}
+use Rattle.buffer.specs.declared.Reader.{Reader}
+use Rattle.buffer.specs.declared.Holds.{Holds}
+use Rattle.buffer.specs.declared.Holds.the-variants.{Yes, No, Refused as HoldsRefused}
+use Rattle.header.specs.Header.{headerOf}
+use Rattle.header.specs.declared.Attempt.{Attempt}
+use Rattle.header.specs.declared.Header.{Header}
+use Rattle.header.specs.declared.Header.the-variants.{Accepted, Refused as HeaderRefused}
+use Rattle.audio.specs.State.{inRange}
+use Rattle.audio.specs.declared.Audio.{Audio}
+use Rattle.audio.specs.declared.Heading.{Heading}
+use Rattle.audio.specs.declared.Heading.the-variants.{Known, Refused}
+use Rattle.audio.specs.declared.Asked.{Asked}
+
+abbrev pub asked : Heading → Audio → Asked
+asked h a = record { answer = h; state = a }
+
+-- an accepted header is pending; a refused one moves the position and keeps the old format
+abbrev pub seeking : Audio → Reader → Header → Asked
+seeking a r (Accepted f size) =
+    asked Known (record { reader = r; format = f; frames = a .frames; pending = size; ring = a .ring; time = a .time })
+seeking a r (HeaderRefused n) =
+    asked (Refused n) (record { reader = r; format = a .format; frames = a .frames; pending = 0; ring = a .ring; time = a .time })
+
+abbrev pub tried : Audio → Attempt → Asked
+tried a t = seeking a (t .next) (t .header)
+
+unfoldable pub attemptOf : List ℕ → Audio → Asked
+attemptOf s a = tried a (headerOf s (a .reader) (a .format))
+
+-- the header that is pending, or else the next
+unfoldable pub headedOf : List ℕ → Audio → Asked
+headedOf s a = cond (eqb (a .pending) 0) (attemptOf s a) (asked Known a)
+
+-- 7: "fewer bits remain than 8 times its data size"
+abbrev pub holding : Audio → Holds → Asked
+holding a Yes = asked Known a
+holding a No = asked (Refused 7) a
+holding a (HoldsRefused n) = asked (Refused n) a
+
+unfoldable pub enoughOf : List ℕ → Audio → Asked
+enoughOf s a = holding a (hasOf s (a .reader) (8 * a .pending))
+
+abbrev pub goesOn : List ℕ → Heading → Audio → Asked
+goesOn s Known a = enoughOf s a
+goesOn s (Refused n) a = asked (Refused n) a
+
+abbrev pub pended : List ℕ → Asked → Asked
+pended s h = goesOn s (h .answer) (h .state)
+
+-- all of it, for a memory and an output of so many values
+unfoldable pub readyOf : List ℕ → ℕ → ℕ → Audio → Asked
+readyOf s memory output a =
+    cond (ltb 16777216 (length s)) (asked (Refused 8) a)
+    (cond (ltb memory 2048) (asked (Refused 9) a)
+    (cond (ltb output 2304) (asked (Refused 9) a)
+    (cond (inRange a) (pended s (headedOf s a)) (asked (Refused 10) a))))

@@ -1,0 +1,114 @@
+-- The four public calls: for each the answer with the new state, the memory and the output, whatever the input.
+-- From 01, "Numbers a call can give" and "The tag's share of the code".
+use Prim.Native.Nat.{ℕ, _+_, _-_}
+use mathlib.Core.Bool.{cond, false}
+use mathlib.Core.List.{List, _++_}
+use lib.Dec.{eqb, ltb}
+use lib.ListN.{length, drop}
+use lib.IntN.{pos}
+use lib.Ieee.{Float, fin}
+use Rattle.ground.specs.Table.{table}
+use Rattle.buffer.specs.Calls.{alignOf}
+use Rattle.buffer.specs.declared.Reader.{Reader}
+use Rattle.buffer.specs.declared.Moved.{Moved}
+use Rattle.buffer.specs.declared.Moved.the-variants.{To, Refused as MovedRefused}
+use Rattle.tables.specs.Standard.{rateOf}
+use Rattle.clock.specs.Clock.{startOf}
+use Rattle.synthesis.specs.Slots.{positionAfter}
+use Rattle.frame.specs.Frame.{cutFormat, granulesAt, memoryOf, outputOf}
+use Rattle.audio.specs.State.{fresh, inRange}
+use Rattle.audio.specs.Before.{asked, attemptOf, readyOf}
+use Rattle.audio.specs.declared.Audio.{Audio}
+use Rattle.audio.specs.declared.Heading.{Heading}
+use Rattle.audio.specs.declared.Heading.the-variants.{Known, Refused}
+use Rattle.audio.specs.declared.Asked.{Asked}
+use Rattle.audio.specs.declared.Rate.{Rate}
+use Rattle.audio.specs.declared.Rate.the-variants.{Hertz, Refused as RateRefused}
+use Rattle.audio.specs.declared.Answer.{Answer}
+use Rattle.audio.specs.declared.Answer.the-variants.{Frame, Refused as AnswerRefused}
+use Rattle.audio.specs.declared.Decoded.{Decoded}
+
+-- ---- a frame, from a state whose header is pending and whose data are there
+
+-- "after it the position is aligned; it is not moved to the frame's end"
+abbrev pub byMoved : Reader → Moved → Reader
+byMoved r (To x) = x
+byMoved r (MovedRefused n) = r
+
+unfoldable pub alignedOf : List ℕ → Reader → Reader
+alignedOf s r = byMoved r (alignOf s r)
+
+-- the bits used are "how far the position moves .. until the final alignment, which is not counted"
+unfoldable pub afterOf : List ℕ → Audio → Reader → ℕ → Decoded
+afterOf s a end ring =
+    record {
+      answer = Frame (a .time) (end .at .0 - a .reader .at .0);
+      state =
+          record {
+            reader = alignedOf s end;
+            format = cutFormat (a .format);
+            frames = a .frames + 1;
+            pending = 0;
+            ring = ring;
+            time = startOf (a .frames + 1) (a .format .samplerate);
+          };
+    }
+
+unfoldable pub framedOf : List ℕ → Audio → Decoded
+framedOf s a = afterOf s a (granulesAt s (a .reader) (a .format) .next) (positionAfter (a .ring) 36)
+
+unfoldable pub framedMemory : List ℕ → Audio → List Float → List Float
+framedMemory s a memory = memoryOf (granulesAt s (a .reader) (a .format) .value) (a .ring) memory
+
+unfoldable pub framedOutput : List ℕ → Audio → List Float → List Float → List Float
+framedOutput s a memory output = outputOf (granulesAt s (a .reader) (a .format) .value) (a .ring) memory output
+
+-- ---- decode: a frame, or a number, which leaves memory and output as they were
+
+abbrev pub answering : List ℕ → Heading → Audio → Decoded
+answering s Known a = framedOf s a
+answering s (Refused n) a = record { answer = AnswerRefused n; state = a }
+
+abbrev pub remembering : List ℕ → List Float → Heading → Audio → List Float
+remembering s memory Known a = framedMemory s a memory
+remembering s memory (Refused n) a = memory
+
+abbrev pub sounding : List ℕ → List Float → List Float → Heading → Audio → List Float
+sounding s memory output Known a = framedOutput s a memory output
+sounding s memory output (Refused n) a = output
+
+unfoldable pub decodeOf : List ℕ → List Float → List Float → Audio → Decoded
+decodeOf s memory output a =
+    let r = readyOf s (length memory) (length output) a in answering s (r .answer) (r .state)
+
+unfoldable pub decodeMemory : List ℕ → List Float → List Float → Audio → List Float
+decodeMemory s memory output a =
+    let r = readyOf s (length memory) (length output) a in remembering s memory (r .answer) (r .state)
+
+unfoldable pub decodeOutput : List ℕ → List Float → List Float → Audio → List Float
+decodeOutput s memory output a =
+    let r = readyOf s (length memory) (length output) a in sounding s memory output (r .answer) (r .state)
+
+-- ---- new: "unless it gives 8 or 9 it fills the memory's first 2,048 values with +0.0"
+
+unfoldable pub blank : List Float
+blank = table 2048 (λ _. fin false 0 (pos 0))
+
+unfoldable pub openOf : List ℕ → List Float → Asked
+openOf s memory =
+    cond (ltb 16777216 (length s)) (asked (Refused 8) fresh)
+    (cond (ltb (length memory) 2048) (asked (Refused 9) fresh) (attemptOf s fresh))
+
+unfoldable pub openMemory : List ℕ → List Float → List Float
+openMemory s memory =
+    cond (ltb 16777216 (length s)) memory (cond (ltb (length memory) 2048) memory (blank ++ drop 2048 memory))
+
+-- ---- has_header: "8, 10, then 0 if a header is known, else 1 to 5 or 0"; samplerate: "10, or the rate, which is 0 without a header"
+
+unfoldable pub hasHeaderOf : List ℕ → Audio → Asked
+hasHeaderOf s a =
+    cond (ltb 16777216 (length s)) (asked (Refused 8) a)
+    (cond (inRange a) (cond (eqb (a .format .samplerate) 3) (attemptOf s a) (asked Known a)) (asked (Refused 10) a))
+
+unfoldable pub samplerateOf : Audio → Rate
+samplerateOf a = cond (inRange a) (Hertz (rateOf (a .format .samplerate))) (RateRefused 10)

@@ -1,0 +1,5 @@
+pub mod State
+pub mod Before
+pub mod Calls
+pub mod Numbers
+pub mod Facts
