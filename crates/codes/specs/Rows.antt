@@ -8,12 +8,12 @@ use lib.IntN.{ℤ}
 use lib.ListN.{replicate}
 use Rattle.buffer.specs.Bits.{bitAt, bitsValue}
 use Rattle.buffer.specs.Calls.{readOf, readerAt, fieldOf}
-use Rattle.grammar.specs.Reads.{Reads, _>>=_, run, called}
+use Rattle.grammar.specs.Reads.{Reads, _>>=_, called}
 use Rattle.tables.specs.Standard.{limitOf, chosen, serves, sblimit, rowsOf}
 use Rattle.tables.specs.Source.{rowOf, widthOf, quantiserOf}
 use Rattle.tables.specs.Differences.{tableOf}
 use Rattle.side.specs.Bands.{bands, pairOf, channelsOf}
-use Rattle.side.specs.Side.{cutOf, allocationOf, allocationBandOf, selectorOf, factorsOf, Side, sideOf}
+use Rattle.side.specs.Side.{cutOf, allocationOf, allocationBandOf, selectorOf, factorsOf, sideOf}
 use Rattle.codes.specs.Frame.{placeOf, copied, sampleBandOf, granuleOf, granulesOf, frameOf}
 
 -- joint stereo with extension 3 has bound 16, and 96 kbit/s at 44.1 kHz the limit 8

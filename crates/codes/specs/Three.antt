@@ -1,7 +1,7 @@
 -- Three codes of one width read at once are the three read one by one, where all their bits are there.
 -- Assumes nothing.
 use Prim.Native.Nat.{ℕ, _+_, _*_, _/_, _%_, _^_, _≤_, _<_}
-use mathlib.Core.Path.{_≡_, refl, sym, ap, _∙_}
+use mathlib.Core.Path.{_≡_, refl, ap, _∙_}
 use mathlib.Core.List.{List}
 use native.Mathlib.Nat.{add-assoc}
 use native.Mathlib.Omega.{arith}
@@ -16,8 +16,7 @@ use Rattle.buffer.specs.Laws.{split, below, Enough, field-whole}
 use Rattle.buffer.specs.declared.Reader.{Reader}
 use Rattle.buffer.specs.declared.Field.{Field}
 use Rattle.buffer.specs.declared.Read.{Read}
-use Rattle.buffer.specs.declared.Read.the-variants.{Value, Short, Refused}
-use Rattle.grammar.specs.Reads.{Reads, run, ran}
+use Rattle.grammar.specs.Reads.{run, ran}
 use Rattle.samples.specs.declared.Three.{Three}
 use Rattle.codes.specs.Frame.{singlesOf}
 

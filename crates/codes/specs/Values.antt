@@ -1,8 +1,8 @@
 -- Bounds on what a frame holds, whatever the stream: codes that their quantiser's fields can hold, and 192 samples of magnitude
--- at most 104,848 in each granule, so that each is an `f32` exactly.
+-- at most 104,848 in each granule, so that each is an `f32` exactly; from the limit up all is 0.
 -- Assumes nothing.
 use Prim.Native.Nat.{ℕ, zero, suc, _+_, _-_, _*_, _/_, _%_, _^_, _≤_, _<_}
-use mathlib.Core.Path.{_≡_, _∙_}
+use mathlib.Core.Path.{_≡_, refl, _∙_}
 use mathlib.Core.Bool.{Bool, true, false}
 use mathlib.Core.List.{List, [], _∷_, _++_}
 use native.Mathlib.Nat.{mod-lt, le-trans, div-mul-le-self, le-div-iff-mul-le}
@@ -10,15 +10,14 @@ use native.Mathlib.Omega.{arith}
 use lib.Dec.{lit≤}
 use lib.IntN.{ℤ, pos, natAbs}
 use lib.ListN.{length, getD, set, replicate, length-set, length-replicate}
+use lib.Seq.{getD-set-other}
 use Rattle.ground.specs.Tests.{by-test}
-use Rattle.grammar.specs.Reads.{Reads, done, ask, _>>=_}
-use Rattle.grammar.specs.Values.{Always, always-bind}
+use Rattle.grammar.specs.Values.{Always, always-bind, anything, always-anything}
 use Rattle.tables.specs.Standard.{levelsOf, codeBitsOf, groupedOf}
-use Rattle.tables.specs.Laws.{Sizes, sized}
-use Rattle.samples.specs.Bounds.{mostOf, Range, ranged, sample-small}
+use Rattle.tables.specs.Laws.{sized}
+use Rattle.samples.specs.Bounds.{mostOf, ranged, sample-small}
 use Rattle.samples.specs.declared.Three.{Three}
 use Rattle.side.specs.Bands.{three}
-use Rattle.side.specs.Below.{Below}
 use Rattle.side.specs.Side.{Side, sideOf}
 use Rattle.side.specs.Values.{bands-always, pair-always, allocated-always, Ranged, side-ranged}
 use Rattle.codes.specs.Frame.{codesOf, singlesOf, samplesOf, placeOf, copied, sampleBandOf, granuleOf, granulesOf, frameOf}
@@ -64,78 +63,125 @@ codes-small q p h =
     })
 
 -- 192 samples, each of magnitude at most 104,848
-pub record Loud (xs : List ℤ) : Type 0 where
+pub record Bounded (xs : List ℤ) : Type 0 where
   pub many : length xs ≡ 192
   pub each : (i : ℕ) → natAbs (getD xs i (pos 0)) ≤ 104848
 
-set-loud : (xs : List ℤ) (k : ℕ) (v : ℤ) → ((i : ℕ) → natAbs (getD xs i (pos 0)) ≤ 104848) → natAbs v ≤ 104848 →
+set-bounded : (xs : List ℤ) (k : ℕ) (v : ℤ) → ((i : ℕ) → natAbs (getD xs i (pos 0)) ≤ 104848) → natAbs v ≤ 104848 →
     (i : ℕ) → natAbs (getD (set xs k v) i (pos 0)) ≤ 104848
-set-loud [] k v p q i = p i
-set-loud (x ∷ xs) zero v p q zero = q
-set-loud (x ∷ xs) zero v p q (suc i) = p (suc i)
-set-loud (x ∷ xs) (suc k) v p q zero = p 0
-set-loud (x ∷ xs) (suc k) v p q (suc i) = set-loud xs k v (λ j. p (suc j)) q i
+set-bounded [] k v p q i = p i
+set-bounded (x ∷ xs) zero v p q zero = q
+set-bounded (x ∷ xs) zero v p q (suc i) = p (suc i)
+set-bounded (x ∷ xs) (suc k) v p q zero = p 0
+set-bounded (x ∷ xs) (suc k) v p q (suc i) = set-bounded xs k v (λ j. p (suc j)) q i
 
-set-keeps : (xs : List ℤ) (k : ℕ) (v : ℤ) → Loud xs → natAbs v ≤ 104848 → Loud (set xs k v)
-set-keeps xs k v p q = record { many = length-set xs k v ∙ p .many; each = set-loud xs k v (p .each) q }
+set-keeps : (xs : List ℤ) (k : ℕ) (v : ℤ) → Bounded xs → natAbs v ≤ 104848 → Bounded (set xs k v)
+set-keeps xs k v p q = record { many = length-set xs k v ∙ p .many; each = set-bounded xs k v (p .each) q }
 
-three-keeps : (xs : List ℤ) (place : ℕ) (x y z : ℤ) → Loud xs → natAbs x ≤ 104848 → natAbs y ≤ 104848 → natAbs z ≤ 104848 → Loud (three place x y z xs)
+three-keeps : (xs : List ℤ) (place : ℕ) (x y z : ℤ) → Bounded xs → natAbs x ≤ 104848 → natAbs y ≤ 104848 → natAbs z ≤ 104848 → Bounded (three place x y z xs)
 three-keeps xs place x y z p h g k = set-keeps _ (place + 128) z (set-keeps _ (place + 64) y (set-keeps xs place x p h) g) k
 
-zeros-quiet : (n i : ℕ) → natAbs (getD (replicate n (pos 0)) i (pos 0)) ≤ 104848
-zeros-quiet zero i = lit≤ tt
-zeros-quiet (suc n) zero = lit≤ tt
-zeros-quiet (suc n) (suc i) = zeros-quiet n i
+zero-at : (n i : ℕ) → getD (replicate n (pos 0)) i (pos 0) ≡ pos 0
+zero-at zero i = refl
+zero-at (suc n) zero = refl
+zero-at (suc n) (suc i) = zero-at n i
 
-pub silence : Loud (replicate 192 (pos 0))
-silence = record { many = length-replicate 192 (pos 0); each = zeros-quiet 192 }
+pub silence : Bounded (replicate 192 (pos 0))
+silence = record { many = length-replicate 192 (pos 0); each = λ i. rw (zero-at 192 i) (lit≤ tt) }
 
-samples-loud : (q factor place : ℕ) → 0 < q → q < 18 → factor ≤ 33554432 → (xs : List ℤ) → Loud xs → Always Loud (samplesOf q factor place xs)
+samples-bounded : (q factor place : ℕ) → 0 < q → q < 18 → factor ≤ 33554432 → (xs : List ℤ) → Bounded xs → Always Bounded (samplesOf q factor place xs)
 unfolding samplesOf Always
-samples-loud q factor place p h f xs l =
-    always-bind (Small (mostOf q)) Loud (codesOf q) _ (codes-small q p h)
+samples-bounded q factor place p h f xs l =
+    always-bind (Small (mostOf q)) Bounded (codesOf q) _ (codes-small q p h)
     (λ c s. three-keeps xs place _ _ _ l (sample-small q (c .first) factor p h (s .first) f)
     (sample-small q (c .second) factor p h (s .second) f) (sample-small q (c .third) factor p h (s .third) f))
 
 module _ (side : Side) (r : Ranged side) (part : ℕ) where
-  place-loud : (place : ℕ) (xs : List ℤ) → Loud xs → Always Loud (placeOf side part place xs)
+  place-bounded : (place : ℕ) (xs : List ℤ) → Bounded xs → Always Bounded (placeOf side part place xs)
   unfolding placeOf
-  place-loud place =
-      allocated-always Loud (side .quant) (λ k. samplesOf (getD (side .quant) k 0) (getD (side .factor) (part * 64 + k) 0) k) place
-      (λ e. samples-loud (getD (side .quant) place 0) (getD (side .factor) (part * 64 + place) 0) place
+  place-bounded place =
+      allocated-always Bounded (side .quant) (λ k. samplesOf (getD (side .quant) k 0) (getD (side .factor) (part * 64 + k) 0) k) place
+      (λ e. samples-bounded (getD (side .quant) place 0) (getD (side .factor) (part * 64 + place) 0) place
       (omega arith) (r .quant .each place) (omega (arith, r .factor .each (part * 64 + place))))
 
-  copied-loud : (sb : ℕ) (xs : List ℤ) → Loud xs → Loud (copied sb xs)
+  copied-bounded : (sb : ℕ) (xs : List ℤ) → Bounded xs → Bounded (copied sb xs)
   unfolding copied
-  copied-loud sb xs l = three-keeps xs (sb + 32) _ _ _ l (l .each sb) (l .each (sb + 64)) (l .each (sb + 128))
+  copied-bounded sb xs l = three-keeps xs (sb + 32) _ _ _ l (l .each sb) (l .each (sb + 64)) (l .each (sb + 128))
 
-  band-loud : (bound sb : ℕ) (xs : List ℤ) → Loud xs → Always Loud (sampleBandOf side part bound sb xs)
+  band-bounded : (bound sb : ℕ) (xs : List ℤ) → Bounded xs → Always Bounded (sampleBandOf side part bound sb xs)
   unfolding sampleBandOf
-  band-loud bound sb = pair-always Loud _ _ _ _ (place-loud sb) (place-loud (sb + 32)) (copied-loud sb)
+  band-bounded bound sb = pair-always Bounded _ _ _ _ (place-bounded sb) (place-bounded (sb + 32)) (copied-bounded sb)
 
-  pub granule-loud : (bound limit : ℕ) → Always Loud (granuleOf side part bound limit)
+  pub granule-bounded : (bound limit : ℕ) → Always Bounded (granuleOf side part bound limit)
   unfolding granuleOf
-  granule-loud bound limit = bands-always Loud (sampleBandOf side part bound) (band-loud bound) limit _ silence
+  granule-bounded bound limit = bands-always Bounded (sampleBandOf side part bound) limit (λ sb _. band-bounded bound sb) limit (omega arith) _ silence
+
+-- from the limit up, in every slot and both channels, all is 0
+unfoldable pub Silent : ℕ → List ℤ → Type 0
+Silent limit xs = (i : ℕ) → limit ≤ i % 32 → getD xs i (pos 0) ≡ pos 0
+
+module _ (limit : ℕ) where
+  set-silent : (xs : List ℤ) (k : ℕ) (v : ℤ) → k % 32 < limit → Silent limit xs → Silent limit (set xs k v)
+  unfolding Silent
+  set-silent xs k v h p i l = getD-set-other xs k i v (pos 0) (λ e. omega arith) ∙ p i l
+
+  three-silent : (place : ℕ) (x y z : ℤ) (xs : List ℤ) → place % 32 < limit → Silent limit xs → Silent limit (three place x y z xs)
+  three-silent place x y z xs h p =
+      set-silent _ (place + 128) z (omega arith) (set-silent _ (place + 64) y (omega arith) (set-silent xs place x h p))
+
+  samples-silent : (q factor place : ℕ) → place % 32 < limit → (xs : List ℤ) → Silent limit xs → Always (Silent limit) (samplesOf q factor place xs)
+  unfolding samplesOf Always
+  samples-silent q factor place h xs p =
+      always-bind anything (Silent limit) (codesOf q) _ (always-anything (codesOf q)) (λ c _. three-silent place _ _ _ xs h p)
+
+  place-silent : (side : Side) (part place : ℕ) → place % 32 < limit → (xs : List ℤ) → Silent limit xs → Always (Silent limit) (placeOf side part place xs)
+  unfolding placeOf
+  place-silent side part place h =
+      allocated-always (Silent limit) (side .quant) (λ k. samplesOf (getD (side .quant) k 0) (getD (side .factor) (part * 64 + k) 0) k) place
+      (λ _. samples-silent (getD (side .quant) place 0) (getD (side .factor) (part * 64 + place) 0) place h)
+
+  band-silent : (side : Side) (part bound sb : ℕ) → sb < limit → (xs : List ℤ) → Silent limit xs → Always (Silent limit) (sampleBandOf side part bound sb xs)
+  unfolding sampleBandOf copied
+  band-silent side part bound sb h =
+      pair-always (Silent limit) _ _ _ _ (place-silent side part sb (omega arith)) (place-silent side part (sb + 32) (omega arith))
+      (λ xs p. three-silent (sb + 32) _ _ _ xs (omega arith) p)
+
+  zeros-silent : (n : ℕ) → Silent limit (replicate n (pos 0))
+  unfolding Silent
+  zeros-silent n i l = zero-at n i
+
+  pub granule-silent : (side : Side) (part bound : ℕ) → Always (Silent limit) (granuleOf side part bound limit)
+  unfolding granuleOf
+  granule-silent side part bound =
+      bands-always (Silent limit) (sampleBandOf side part bound) limit (band-silent side part bound) limit (omega arith) _ (zeros-silent 192)
 
 -- each granule of a list
-unfoldable pub AllLoud : List (List ℤ) → Type 0
-AllLoud [] = Unit
-AllLoud (x ∷ xs) = Loud x × AllLoud xs
+unfoldable pub All : (List ℤ → Type 0) → List (List ℤ) → Type 0
+All P [] = Unit
+All P (x ∷ xs) = P x × All P xs
 
-one-more : (xs : List (List ℤ)) (x : List ℤ) → AllLoud xs → Loud x → AllLoud (xs ++ (x ∷ []))
-unfolding AllLoud
-one-more [] x p q = (q, tt)
-one-more (y ∷ ys) x p q = (p .0, one-more ys x (p .1) q)
+module _ (P : List ℤ → Type 0) where
+  one-more : (xs : List (List ℤ)) (x : List ℤ) → All P xs → P x → All P (xs ++ (x ∷ []))
+  unfolding All
+  one-more [] x p q = (q, tt)
+  one-more (y ∷ ys) x p q = (p .0, one-more ys x (p .1) q)
 
-granules-loud : (side : Side) → Ranged side → (bound limit n : ℕ) → Always AllLoud (granulesOf side bound limit n)
-unfolding granulesOf Always AllLoud
-granules-loud side r bound limit zero = tt
-granules-loud side r bound limit (suc g) =
-    always-bind AllLoud AllLoud (granulesOf side bound limit g) _ (granules-loud side r bound limit g)
-    (λ xs p. always-bind Loud AllLoud (granuleOf side (g / 4) bound limit) _ (granule-loud side r (g / 4) bound limit) (λ x q. one-more xs x p q))
+  granules-all : (side : Side) (bound limit : ℕ) → ((part : ℕ) → Always P (granuleOf side part bound limit)) → (n : ℕ) → Always (All P) (granulesOf side bound limit n)
+  unfolding granulesOf Always All
+  granules-all side bound limit h zero = tt
+  granules-all side bound limit h (suc g) =
+      always-bind (All P) (All P) (granulesOf side bound limit g) _ (granules-all side bound limit h g)
+      (λ xs p. always-bind P (All P) (granuleOf side (g / 4) bound limit) _ (h (g / 4)) (λ x q. one-more xs x p q))
 
-pub frame-loud : (mono : Bool) (table bound limit : ℕ) → Always AllLoud (frameOf mono table bound limit)
+-- the twelve granules of a frame
+pub frame-bounded : (mono : Bool) (table bound limit : ℕ) → Always (All Bounded) (frameOf mono table bound limit)
 unfolding frameOf
-frame-loud mono table bound limit =
-    always-bind Ranged AllLoud (sideOf mono table bound limit) _ (side-ranged mono table bound limit)
-    (λ side r. granules-loud side r bound limit 12)
+frame-bounded mono table bound limit =
+    always-bind Ranged (All Bounded) (sideOf mono table bound limit) _ (side-ranged mono table bound limit)
+    (λ side r. granules-all Bounded side bound limit (λ part. granule-bounded side r part bound limit) 12)
+
+pub frame-silent : (mono : Bool) (table bound limit : ℕ) → Always (All (Silent limit)) (frameOf mono table bound limit)
+unfolding frameOf
+frame-silent mono table bound limit =
+    always-bind anything (All (Silent limit)) (sideOf mono table bound limit) _ (always-anything (sideOf mono table bound limit))
+    (λ side _. granules-all (Silent limit) side bound limit (λ part. granule-silent limit side part bound) 12)

@@ -11,7 +11,7 @@ use lib.ListN.{getD}
 use Rattle.ground.specs.Tests.{by-test}
 use Rattle.buffer.specs.Laws.{Enough}
 use Rattle.buffer.specs.declared.Reader.{Reader}
-use Rattle.grammar.specs.Reads.{Reads, done, ask, _>>=_, run, called}
+use Rattle.grammar.specs.Reads.{run, called}
 use Rattle.grammar.specs.Widths.{Narrow, narrow-bind, exact, Agree, Alike, alike}
 use Rattle.tables.specs.Standard.{codeBitsOf, groupedOf}
 use Rattle.tables.specs.Laws.{bits≤16}

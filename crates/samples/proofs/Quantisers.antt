@@ -4,7 +4,7 @@ use Prim.Native.Nat.{ℕ, _/_, _^_, _<_}
 use mathlib.Core.Path.{_≡_}
 use mathlib.Core.Bool.{Bool, _||_}
 use lib.Dec.{T, eqb, eqb→eq}
-use Rattle.ground.specs.Upto.{upto, below, or-left}
+use Rattle.ground.specs.Upto.{below, or-left}
 use Rattle.tables.specs.Standard.{classes, quantisationOf, levelsOf, codeBitsOf}
 use Rattle.samples.specs.Sample.{scaleOf}
 

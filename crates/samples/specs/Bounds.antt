@@ -1,17 +1,17 @@
 -- How large a sample can be, whatever the code and the scale factor: at most 104,848, so that no step leaves an `i32`
 -- and every sample is an `f32` exactly. The largest comes from the third digit 12 of nine levels at scale factor 0.
 -- Assumes nothing.
-use Prim.Native.Nat.{ℕ, zero, suc, _+_, _-_, _*_, _/_, _%_, _^_, _≤_, _<_, max}
+use Prim.Native.Nat.{ℕ, suc, _+_, _-_, _*_, _/_, _%_, _^_, _≤_, _<_, max}
 use mathlib.Core.Path.{_≡_, sym, ap, _∙_}
-use mathlib.Core.Bool.{Bool, true, false, cond, _&&_, _||_}
+use mathlib.Core.Bool.{Bool, cond, _&&_, _||_}
 use native.Mathlib.Nat.{mul-le-mul, mul-le-mul-right, le-trans, div-add-mod', mul-add, mul-assoc}
 use native.Mathlib.Omega.{arith}
-use lib.Dec.{T, eqb, ltb, leb, eqb→eq, leb→le, lit≤}
+use lib.Dec.{T, eqb, ltb, leb, eqb→eq, leb→le}
 use lib.IntN.{ℤ, pos, negsuc, natAbs, _+ℤ_, _-ℤ_, _*ℤ_}
 use borrow.Author.Tests.{ltb-true}
 use Rattle.ground.specs.Tests.{by-test}
-use Rattle.ground.specs.Upto.{upto, below, and-left, and-right, or-left}
-use Rattle.ground.specs.Magnitude.{abs-mul, abs-add, abs-sub, bound-add}
+use Rattle.ground.specs.Upto.{below, and-left, and-right, or-left}
+use Rattle.ground.specs.Magnitude.{abs-mul, abs-add, abs-sub}
 use Rattle.tables.specs.Standard.{classes, quantisationOf, levelsOf, codeBitsOf, groupedOf}
 use Rattle.samples.specs.Sample.{floorBy, scaleOf, adjOf, centredBy, scaledBy, sampleOf, factorOf}
 

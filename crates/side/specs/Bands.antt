@@ -6,7 +6,7 @@ use mathlib.Core.Bool.{Bool, cond, not}
 use mathlib.Core.List.{List}
 use lib.Dec.{eqb}
 use lib.ListN.{getD, set}
-use Rattle.grammar.specs.Reads.{Reads, done, ask, _>>=_}
+use Rattle.grammar.specs.Reads.{Reads, done, _>>=_}
 
 -- the subbands below n, one after the other
 unfoldable pub bands : {A : Type 0} → (ℕ → A → Reads A) → ℕ → A → Reads A

@@ -1,6 +1,6 @@
 -- Bounds on the side information, whatever the stream: quantisers below 18, factors at most 33,554,432.
 -- Assumes nothing.
-use Prim.Native.Nat.{ℕ, zero, suc, _+_, _^_, _<_}
+use Prim.Native.Nat.{ℕ, zero, suc, _+_, _^_, _≤_, _<_}
 use mathlib.Core.Path.{_≡_}
 use mathlib.Core.Bool.{Bool}
 use mathlib.Core.List.{List, [], _∷_}
@@ -9,7 +9,7 @@ use borrow.Author.Tests.{eqb-false}
 use lib.Dec.{eqb, lit<}
 use lib.ListN.{getD, set, replicate}
 use Rattle.ground.specs.Tests.{by-test}
-use Rattle.grammar.specs.Reads.{Reads, done, ask, _>>=_}
+use Rattle.grammar.specs.Reads.{Reads, done, ask}
 use Rattle.grammar.specs.Values.{Always, always-bind, anything, always-anything}
 use Rattle.tables.specs.Laws.{quantiser<18}
 use Rattle.samples.specs.Sample.{factorOf}
@@ -20,10 +20,12 @@ use Rattle.side.specs.Side.{allocationOf, allocationBandOf, selectorsOf,
 
 -- what each subband keeps, all of them keep
 module _ {A : Type 0} (P : A → Type 0) where
-  pub bands-always : (band : ℕ → A → Reads A) → ((sb : ℕ) (xs : A) → P xs → Always P (band sb xs)) → (n : ℕ) (xs : A) → P xs → Always P (bands band n xs)
+  pub bands-always : (band : ℕ → A → Reads A) (limit : ℕ) → ((sb : ℕ) → sb < limit → (xs : A) → P xs → Always P (band sb xs)) →
+      (n : ℕ) → n ≤ limit → (xs : A) → P xs → Always P (bands band n xs)
   unfolding bands Always
-  bands-always band h zero xs p = p
-  bands-always band h (suc n) xs p = always-bind P P (bands band n xs) (band n) (bands-always band h n xs p) (h n)
+  bands-always band limit h zero l xs p = p
+  bands-always band limit h (suc n) l xs p =
+      always-bind P P (bands band n xs) (band n) (bands-always band limit h n (omega arith) xs p) (h n (omega arith))
 
   pub pair-always : (own : Bool) (left right : A → Reads A) (copy : A → A) → ((xs : A) → P xs → Always P (left xs)) →
       ((xs : A) → P xs → Always P (right xs)) → ((xs : A) → P xs → P (copy xs)) → (xs : A) → P xs → Always P (pairOf own left right copy xs)
@@ -95,11 +97,11 @@ pub side-ranged : (mono : Bool) (table bound limit : ℕ) → Always Ranged (sid
 unfolding sideOf Always
 side-ranged mono table bound limit =
     always-bind (Below 18) Ranged _ _
-    (bands-always (Below 18) (allocationBandOf table bound) (allocation-band-below table bound) limit _ (zeros-below 18 64 (lit< tt)))
+    (bands-always (Below 18) (allocationBandOf table bound) limit (λ sb _. allocation-band-below table bound sb) limit (omega arith) _ (zeros-below 18 64 (lit< tt)))
     (λ quant p. always-bind anything Ranged _ _ (always-anything (selectorsOf mono quant limit (replicate 64 0)))
     (λ selector _. always-bind (Below 33554433) Ranged _ _
-    (bands-always (Below 33554433) _
-    (channels-always (Below 33554433) mono (scaleOf quant selector)
-    (λ place. allocated-always (Below 33554433) quant (λ k. factorsOf (getD selector k 0) k) place (λ _. factors-below (getD selector place 0) place)))
-    limit _ (zeros-below 33554433 192 (lit< tt)))
+    (bands-always (Below 33554433) _ limit
+    (λ sb _. channels-always (Below 33554433) mono (scaleOf quant selector)
+    (λ place. allocated-always (Below 33554433) quant (λ k. factorsOf (getD selector k 0) k) place (λ _. factors-below (getD selector place 0) place)) sb)
+    limit (omega arith) _ (zeros-below 33554433 192 (lit< tt)))
     (λ factor q. record { quant = p; factor = q })))

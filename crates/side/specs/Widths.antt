@@ -1,13 +1,13 @@
 -- No field of the side information is wider than 32 bits.
 -- Assumes nothing.
-use Prim.Native.Nat.{ℕ, zero, suc, _+_, _≤_}
+use Prim.Native.Nat.{ℕ, zero, suc, _+_}
 use mathlib.Core.Bool.{Bool}
 use mathlib.Core.List.{List}
 use native.Mathlib.Omega.{arith}
 use lib.Dec.{eqb, lit≤}
 use lib.ListN.{getD}
 use Rattle.ground.specs.Tests.{by-test}
-use Rattle.grammar.specs.Reads.{Reads, done, ask, _>>=_}
+use Rattle.grammar.specs.Reads.{Reads, done}
 use Rattle.grammar.specs.Widths.{Narrow, narrow-bind}
 use Rattle.tables.specs.Laws.{width≤4}
 use Rattle.side.specs.Bands.{bands, pairOf, channelsOf, allocatedOf}

@@ -5,7 +5,7 @@ use mathlib.Core.Path.{_≡_, refl}
 use mathlib.Core.Bool.{Bool, true, false, cond, not, _||_}
 use native.Mathlib.Omega.{arith}
 use lib.Dec.{T, eqb, leb, eqb→eq, leb→le}
-use Rattle.ground.specs.Upto.{upto, below, or-left}
+use Rattle.ground.specs.Upto.{below, or-left}
 use Rattle.tables.specs.Standard.{classes, quantisationOf, levelsOf, codeBitsOf, groupedOf}
 
 equal : (a b : Bool) → T (cond a b (not b)) → a ≡ b

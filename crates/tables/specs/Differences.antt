@@ -1,16 +1,16 @@
 -- The source's tables say what the standard's say, but for the entry listed here: each claim is a test computed over all entries.
 -- Assumes nothing.
-use Prim.Native.Nat.{ℕ, zero, suc, _+_, _*_, _/_, _%_, _^_, _≤_, _<_}
-use mathlib.Core.Path.{_≡_, refl, sym, _∙_}
+use Prim.Native.Nat.{ℕ, _/_, _%_, _^_, _≤_, _<_}
+use mathlib.Core.Path.{_≡_, refl}
 use mathlib.Core.Bool.{Bool, true, false, cond, _&&_, _||_}
 use mathlib.Core.List.{List, [], _∷_}
 use native.Mathlib.Nat.{lt-of-lt-of-le}
 use native.Mathlib.Omega.{arith}
-use lib.Dec.{T, eqb, ltb, leb, eqb→eq, leb→le, lit≤}
-use lib.ListN.{getD, length, drop}
+use lib.Dec.{T, eqb, ltb, leb, eqb→eq, leb→le}
+use lib.ListN.{drop}
 use lib.Pow.{pow-mono}
 use Rattle.ground.specs.Upto.{upto, below, below2, and-left, and-right, or-left}
-use Rattle.tables.specs.Standard.{Row, Table, B2a, B2b, B2c, B2d, rowsOf, sblimit, rowOf, stepsOf, chosen, Class, classes, quantisationOf, levelsOf}
+use Rattle.tables.specs.Standard.{Table, B2a, B2b, B2c, B2d, rowsOf, sblimit, rowOf, stepsOf, chosen, Class, classes, quantisationOf, levelsOf}
 use Rattle.tables.specs.Source.{quantTab, entryOf, rowOf as sourceRow, widthOf, quantiserOf}
 use Rattle.tables.specs.Laws.{width≤4}
 

@@ -1,15 +1,15 @@
 -- How large what the tables hold can be: what callers need to know of it.
 -- Assumes nothing.
-use Prim.Native.Nat.{ℕ, zero, suc, _+_, _*_, _/_, _%_, _^_, _≤_, _<_}
+use Prim.Native.Nat.{ℕ, _+_, _*_, _/_, _%_, _^_, _≤_, _<_}
 use mathlib.Core.Path.{_≡_}
 use mathlib.Core.Bool.{Bool, true, false, cond, _&&_, _||_}
 use mathlib.Core.List.{List, []}
 use native.Mathlib.Omega.{arith}
 use lib.Dec.{T, eqb, ltb, leb, eqb→eq, leb→le, ltb→lt, lit≤}
 use lib.ListN.{getD}
-use Rattle.ground.specs.Upto.{upto, below, and-left, and-right, or-left}
+use Rattle.ground.specs.Upto.{below, and-left, and-right, or-left}
 use Rattle.ground.specs.Entries.{each, entry}
-use Rattle.tables.specs.Standard.{Table, B2a, B2b, B2c, B2d, rowsOf, sblimit, chosen, limitOf, Class, class, classes, quantisationOf, levelsOf, codeBitsOf, groupedOf}
+use Rattle.tables.specs.Standard.{Table, B2a, B2b, B2c, B2d, rowsOf, sblimit, chosen, limitOf, class, classes, quantisationOf, levelsOf, codeBitsOf, groupedOf}
 use Rattle.tables.specs.Source.{step1, step3, step4, classOf, rowOf, widthOf, quantiserOf}
 
 -- a test that holds at each entry of each row

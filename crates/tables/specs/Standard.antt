@@ -1,7 +1,7 @@
 -- The tables of ISO/IEC 11172-3, Layer II, as the standard prints them: bit rates and sampling rates (2.4.2.3), allocation
 -- (Tables B.2a to B.2d) and quantisation (Table B.4).
 -- Assumes nothing.
-use Prim.Native.Nat.{ℕ, _+_, _/_}
+use Prim.Native.Nat.{ℕ, _/_}
 use mathlib.Core.Bool.{Bool, cond}
 use mathlib.Core.List.{List, [], _∷_, _++_}
 use lib.Dec.{eqb, leb}

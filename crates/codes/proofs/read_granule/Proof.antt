@@ -8,7 +8,7 @@ use Rattle.grammar.specs.Reads.{run, ran}
 use Rattle.grammar.specs.Run.{andThen}
 use Rattle.side.specs.Bands.{bands}
 use Rattle.codes.specs.Frame.{samplesFrom}
-use Rattle.side.specs.Below.{Below, sideWith}
+use Rattle.side.specs.Below.{sideWith}
 use Rattle.codes.proofs.read_granule.Statement.{statement}
 use Rattle.codes.proofs.read_granule.Tie as tie
 

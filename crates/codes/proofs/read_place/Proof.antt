@@ -3,7 +3,6 @@ use Prim.Native.Nat.{_+_, _*_}
 use native.Mathlib.Omega.{arith}
 use borrow.Author.Tests.{eq-eqb, ne-eqb}
 use Rattle.grammar.specs.Run.{run-done}
-use Rattle.side.specs.Below.{Below}
 use Rattle.codes.specs.Frame.{placeOf}
 use borrow.Author.Needs.{needs}
 use Rattle.codes.proofs.read_place.Statement.{statement}

@@ -4,7 +4,7 @@ use mathlib.Core.Bool.{Bool, _&&_}
 use native.Mathlib.Omega.{arith}
 use lib.Dec.{T, eqb, ltb, eqb→eq, ltb→lt}
 use lib.ListN.{getD}
-use Rattle.ground.specs.Upto.{upto, below, and-left, and-right}
+use Rattle.ground.specs.Upto.{below, and-left, and-right}
 use Rattle.samples.specs.Sample.{factorOf, bases}
 use borrow.Author.Needs.{needs}
 use Rattle.samples.proofs.factor.Statement.{statement}

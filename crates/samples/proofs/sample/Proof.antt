@@ -1,13 +1,13 @@
 -- `samples::sample` meets its contract.
 use borrow.Author.Needs.{needs}
 use Prim.Native.Nat.{_≤_, _/_, _%_}
-use mathlib.Core.Path.{_≡_, refl, ap, _∙_}
+use mathlib.Core.Path.{_≡_, ap, _∙_}
 use native.Mathlib.Omega.{arith}
 use lib.IntN.{natAbs}
 use mir.Syntax.{w32}
 use mir.Val.{toZ, ofZ}
 use Rattle.ground.specs.Magnitude.{back}
-use Rattle.samples.specs.Sample.{centredBy, scaledBy}
+use Rattle.samples.specs.Sample.{scaledBy}
 use Rattle.samples.specs.Bounds.{scaled-small}
 use Rattle.samples.proofs.sample.Statement.{statement}
 use Rattle.samples.proofs.sample.Tie as tie

@@ -1,6 +1,6 @@
 -- `tables::levels` meets its contract: 2 q + 1 for the grouped quantisers, a power of 2 less 1 for the others.
 use Prim.Native.Nat.{_≤_}
-use mathlib.Core.Path.{_≡_, sym, _∙_}
+use mathlib.Core.Path.{sym, _∙_}
 use native.Mathlib.Omega.{arith}
 use Rattle.tables.specs.Laws.{bits≤16}
 use Rattle.tables.proofs.Quantisers.{power-positive, levels-rule}
