@@ -5,9 +5,10 @@ use mathlib.Core.Path.{_≡_, refl, sym, ap, _∙_}
 use mathlib.Core.List.{List, [], _∷_, _++_}
 use native.Mathlib.Omega.{arith}
 use native.Mathlib.Numerals.{add-one}
-use lib.Dec.{T, le→leb, lt→ltb}
-use lib.IntN.{ℤ, pos, negsuc, natAbs}
-use lib.Ieee.{Float, binary32, inFloat}
+use native.Mathlib.Nat.{le-trans}
+use lib.Dec.{lit≤}
+use lib.IntN.{ℤ, pos}
+use lib.Ieee.{Float}
 use lib.ListN.{length, getD, length-append, List·getD-append}
 use lib.Seq.{getD-append-add}
 use Rattle.buffer.specs.declared.Reader.{Reader}
@@ -16,9 +17,9 @@ use Rattle.grammar.specs.Run.{run-bind, run-done}
 use Rattle.grammar.specs.Values.{Always, always-bind, always-run}
 use Rattle.side.specs.Side.{Side}
 use Rattle.codes.specs.Frame.{granuleOf, granulesOf}
-use Rattle.codes.specs.Values.{Loud}
+use Rattle.codes.specs.Values.{Bounded}
 use Rattle.grammar.specs.Values.{anything, always-anything}
-use Rattle.transform.specs.Transform.{Small}
+use Rattle.transform.specs.Transform.{Small, exact}
 use Rattle.window.specs.Output.{Place}
 use Rattle.synthesis.specs.Slots.{samplesOf, positionAfter, ringAfter, interleaved, memoryAfter, outputAfter}
 use Rattle.synthesis.specs.Ring.{Alike, from, position-add}
@@ -27,13 +28,8 @@ use Rattle.synthesis.specs.Output.{output-alike}
 use Rattle.synthesis.specs.Granule.{granule-memory, granule-output}
 use Rattle.frame.specs.Frame.{slotsOf}
 
-in-float : (z : ℤ) → natAbs z ≤ 104848 → T (inFloat binary32 z)
-unfolding inFloat
-in-float (pos n) h = le→leb n (2 ^ 24) (omega arith)
-in-float (negsuc n) h = lt→ltb n (2 ^ 24) (omega arith)
-
-pub loud-small : (xs : List ℤ) → Loud xs → Small xs
-loud-small xs l i h = in-float (getD xs i (pos 0)) (l .each i)
+pub bounded-small : (xs : List ℤ) → Bounded xs → Small xs
+bounded-small xs b i h = exact (getD xs i (pos 0)) (le-trans (b .each i) (lit≤ tt))
 
 -- n granules are n
 pub granules-many : (side : Side) (bound limit n : ℕ) → Always (λ gs. length gs ≡ n) (granulesOf side bound limit n)

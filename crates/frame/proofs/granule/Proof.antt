@@ -3,9 +3,9 @@ use native.Mathlib.Omega.{arith}
 use mathlib.Core.Path.{ap, _∙_}
 use Rattle.grammar.specs.Values.{learnt}
 use Rattle.codes.specs.Frame.{granuleOf}
-use Rattle.codes.specs.Values.{Loud, granule-loud}
+use Rattle.codes.specs.Values.{Bounded, granule-bounded}
 use Rattle.synthesis.specs.Slots.{samplesOf, memoryAfter, outputAfter}
-use Rattle.frame.proofs.Twelve.{loud-small}
+use Rattle.frame.proofs.Twelve.{bounded-small}
 use borrow.Author.Needs.{needs}
 use Rattle.frame.proofs.granule.Statement.{statement}
 use Rattle.frame.proofs.granule.Tie as tie
@@ -18,7 +18,7 @@ mul-synthesize c = search needs
 
 synthesize-requires : tie.Need-synthesize-requires
 unfolding granuleOf
-synthesize-requires c κs = let p = c .before .before .before .before .before .before .before .before .pre in (p .4, p .6, loud-small _ (learnt Loud _ _ _ (c .before .before .before .read-granule .ensures) (granule-loud _ (record { quant = p .2; factor = p .3 }) _ _ _)), p .5, omega arith)
+synthesize-requires c κs = let p = c .before .before .before .before .before .before .before .before .pre in (p .4, p .6, bounded-small _ (learnt Bounded _ _ _ (c .before .before .before .read-granule .ensures) (granule-bounded _ (record { quant = p .2; factor = p .3 }) _ _ _)), p .5, omega arith)
 
 same-length : tie.Need-same-length
 same-length c = search needs
