@@ -95,7 +95,7 @@ fn run(tally: &mut Tally, class: &str, name: &str, stream: &[u8]) {
                 output = samples.interleaved;
                 (0, samples.time.to_bits(), audio.used().1)
             }
-            None => (told.number, start.to_bits(), used),
+            None => (told.number, 0, 0),
         };
         let state = source_state(&audio);
         let answer = ((number, start.to_bits(), used), our_state(&ours));

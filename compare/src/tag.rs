@@ -234,9 +234,9 @@ impl Decoder {
         (number, rate[0])
     }
 
-    /// The number; for a frame its start time and the bits that it used.
+    /// The number; for a frame its start time and the bits that it used, beside a refusal zeros.
     pub fn decode(&mut self, stream: &[u8]) -> (u32, f64, usize) {
-        let (mut start, mut bits) = ([0.0], [0]);
+        let (mut start, mut bits) = ([-1.0], [usize::MAX]);
         let (memory, memory_length) = (self.memory.as_mut_ptr(), self.memory.len());
         let (output, output_length) = (self.output.as_mut_ptr(), self.output.len());
         let (places, counts, time) = (&mut self.places, &mut self.counts, &mut self.time);

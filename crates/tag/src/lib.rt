@@ -1,4 +1,6 @@
 // The boundary that firmware links: numbers and slices, nothing else.
+mod decoder;
+
 use buffer::BitIndex;
 use buffer::Holds;
 use buffer::Moved;
