@@ -1,28 +1,27 @@
--- How the machine puts a field together: from runs of single bytes, or out of 8 bytes at once.
+-- How the machine puts a field together out of 8 bytes at once.
 -- Assumes nothing.
 use Prim.Native.Nat.{ℕ, zero, suc, _+_, _-_, _*_, _/_, _%_, _^_, _≤_, _<_}
 use mathlib.Core.Path.{_≡_, refl, ap, sym, _∙_}
 use mathlib.Core.List.{List}
-use native.Mathlib.Nat.{mod-one, one-mul, lt-of-lt-of-le}
+use native.Mathlib.Nat.{mod-one, div-one, lt-of-lt-of-le, le-of-suc-le-suc}
 use native.Mathlib.Numerals.{add-one}
 use native.Mathlib.Omega.{arith}
-use lib.Pow.{shl-exact, pow-mono, mod-pow-add, shr-shr, shl-shr, high, low, field}
+use lib.Pow.{pow-mono, mod-pow-add, shr-shr, shl-shr, high, low, field}
 use lib.ListN.{getD}
-use lib.Dec.{lit<}
-use Rattle.buffer.specs.Bits.{bitAt, bitsValue, runOf}
+use Rattle.buffer.specs.Bits.{bitAt, bitsValue}
 use Rattle.buffer.specs.Laws.{split, below}
 use Rattle.buffer.specs.Calls.{orZero}
 use Rattle.buffer.specs.declared.Reader.{Reader}
 use Rattle.buffer.specs.declared.Read.{Read}
 use Rattle.buffer.specs.declared.Read.the-variants.{Value, Short, Refused}
 
--- a run of a byte's bits, with the next bit
+-- some of a byte's bits, with the next one
 grow : (b e k : ℕ) → b / 2 ^ (e + 1) % 2 ^ k * 2 + b / 2 ^ e % 2 ≡ b / 2 ^ e % 2 ^ suc k
 grow b e k = rw (← add-one k, mod-pow-add (b / 2 ^ e) k 1, shr-shr b e 1)
 
 -- the k bits from `at`, where they lie in one byte
-in-byte : (s : List ℕ) (at k : ℕ) → at % 8 + k ≤ 8 → bitsValue s at k ≡ runOf (getD s (at / 8) 0) (at % 8) k
-unfolding bitsValue bitAt runOf
+in-byte : (s : List ℕ) (at k : ℕ) → at % 8 + k ≤ 8 → bitsValue s at k ≡ getD s (at / 8) 0 / 2 ^ (8 - at % 8 - k) % 2 ^ k
+unfolding bitsValue bitAt
 in-byte s at zero h = sym (mod-one _)
 in-byte s at (suc k) h =
     let same : (at + k) / 8 ≡ at / 8 = omega arith in
@@ -30,28 +29,16 @@ in-byte s at (suc k) h =
     let upper : 8 - at % 8 - k ≡ 8 - at % 8 - suc k + 1 = omega arith in
     rw (in-byte s at k (omega arith), same, lower, upper) (grow (getD s (at / 8) 0) (8 - at % 8 - suc k) k)
 
--- a run more, as the machine has it: the shift is a product cut to 32 bits
-module _ (s : List ℕ) (at n k v r : ℕ) (old : v ≡ bitsValue s at n)
-    (more : r ≡ runOf (getD s ((at + n) / 8) 0) ((at + n) % 8) k) (fits : n + k ≤ 32) (one : (at + n) % 8 + k ≤ 8) where
-  pub step : (v * 2 ^ k) % 2 ^ 32 + r ≡ bitsValue s at (n + k)
-  step = rw (old, more, shl-exact n k 32 (below s at n) fits, ← in-byte s (at + n) k one, split s at n k)
-
-  pub step-fits : (v * 2 ^ k) % 2 ^ 32 + r < 2 ^ 32
-  step-fits = rw step (lt-of-lt-of-le (below s at (n + k)) (pow-mono fits))
-
-pub one-shl : (k : ℕ) → k < 32 → (1 * 2 ^ k) % 2 ^ 32 ≡ 2 ^ k
-one-shl k h = shl-exact 1 k 32 (lit< tt) (omega arith) ∙ one-mul (2 ^ k)
-
 -- a byte's 8 bits
-byte-at : (s : List ℕ) (i : ℕ) → runOf (getD s i 0) 0 8 ≡ bitsValue s (i * 8) 8
+byte-at : (s : List ℕ) (i : ℕ) → getD s i 0 % 256 ≡ bitsValue s (i * 8) 8
 byte-at s i =
     let place : i * 8 / 8 ≡ i = omega arith in
     let whole : i * 8 % 8 ≡ 0 = omega arith in
-    sym (rw (place, whole) at (in-byte s (i * 8) 8 (omega arith)))
+    sym (rw (place, whole, div-one) at (in-byte s (i * 8) 8 (omega arith)))
 
 -- 4 bytes
 pub four-bytes : (s : List ℕ) (i : ℕ) → bitsValue s (i * 8) 32
-    ≡ runOf (getD s (i + 3) 0) 0 8 + runOf (getD s (i + 2) 0) 0 8 * 256 + runOf (getD s (i + 1) 0) 0 8 * 65536 + runOf (getD s i 0) 0 8 * 16777216
+    ≡ getD s (i + 3) 0 % 256 + getD s (i + 2) 0 % 256 * 256 + getD s (i + 1) 0 % 256 * 65536 + getD s i 0 % 256 * 16777216
 four-bytes s i =
     let a : i * 8 + 8 ≡ (i + 1) * 8 = omega arith in
     let b : i * 8 + 16 ≡ (i + 2) * 8 = omega arith in
@@ -99,3 +86,7 @@ pub not-value : (r : Reader) (x : Read) → ((v : ℕ) (n : Reader) → x ≡ Va
 not-value r (Value v n) h = absurd (h v n refl)
 not-value r Short h = refl
 not-value r (Refused n) h = refl
+
+-- the first bits of a field of at most 32, with the next one: what the machine keeps of it fits
+pub double-fits : (s : List ℕ) (at n v : ℕ) → v ≡ bitsValue s at n → n < 32 → v * 2 + 1 < 2 ^ 32
+double-fits s at n v e l = let b : v < 2 ^ 31 = rw e (lt-of-lt-of-le (below s at n) (pow-mono (le-of-suc-le-suc l))) in omega arith

@@ -16,10 +16,6 @@ unfoldable pub bitsValue : List ℕ → ℕ → ℕ → ℕ
 bitsValue s at zero = 0
 bitsValue s at (suc n) = bitsValue s at n * 2 + bitAt s (at + n)
 
--- the k bits of one byte that follow its first r: a run of buffer.rs's `read`
-unfoldable pub runOf : ℕ → ℕ → ℕ → ℕ
-runOf byte r k = byte / 2 ^ (8 - r - k) % 2 ^ k
-
 -- "FF then FC or FD"
 abbrev pub syncPair : ℕ → ℕ → Bool
 syncPair a b = cond (eqb a 255) (eqb (b / 2) 126) false

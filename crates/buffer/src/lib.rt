@@ -1,9 +1,9 @@
 // The bit reader: buffer.rs's `Buffer`, with the stream lent for each call and the position by value.
 // 01, "From the bytes to a header"; the numbers 8, 10, 11 and 12 of its table.
 ghost use mathlib.Core.Path.{_≡_};
-ghost use Prim.Native.Nat.{_+_, _-_, _*_, _≤_, _<_, _/_, min};
+ghost use Prim.Native.Nat.{_+_, _-_, _*_, _≤_, _<_, _/_, _%_, _^_};
 ghost use lib.ListN.{length};
-ghost use Rattle.buffer.specs.Bits.{bitsValue, runOf, syncPair, stopOf, pastOf};
+ghost use Rattle.buffer.specs.Bits.{bitsValue, syncPair, stopOf, pastOf};
 ghost use Rattle.buffer.specs.Calls.{byteOf, byteAfterOf, bitOf, readerAt, readOf, hasOf, endedOf, alignOf, skipOf, Fielded, skipBytesOf, tellOf, searchOf};
 
 // In bytes: 01's longest stream.
@@ -91,12 +91,6 @@ pub struct Field {
     pub next: Reader,
 }
 
-fn smaller(a: usize, b: usize) -> usize
-    ensures { λ r. ⌜ r ≡ min a b ⌝ }
-{
-    if a < b { a } else { b }
-}
-
 // How many bits remain from bit `at`: none past the end.
 fn remaining(s: &[u8], at: usize) -> usize
     requires { ⌜ length (now s) ≤ 16777216 ⌝ }
@@ -106,16 +100,15 @@ fn remaining(s: &[u8], at: usize) -> usize
     if at < total { total - at } else { 0 }
 }
 
-// The `width` bits of `byte` that follow its first `from`.
-fn run(byte: u8, from: usize, width: usize) -> u32
-    requires { ⌜ from + width ≤ 8 ⌝ }
-    ensures { λ r. ⌜ r ≡ runOf byte from width ⌝ }
+fn bit(byte: u8, place: usize) -> u32
+    requires { ⌜ place < 8 ⌝ }
+    ensures { λ r. ⌜ r ≡ byte / 2 ^ (7 - place) % 2 ⌝ }
 {
-    (byte as u32 >> (8 - from - width)) % (1u32 << width)
+    (byte as u32 >> (7 - place)) % 2
 }
 
-// The value of the `count` bits from bit `at`, byte by byte, as buffer.rs has it.
-fn bits_by_runs(s: &[u8], at: usize, count: usize) -> u32
+// The value of the `count` bits from bit `at`, bit by bit: only near the stream's end, where no 8 bytes are left.
+fn last_bits(s: &[u8], at: usize, count: usize) -> u32
     requires { ⌜ (count ≤ 32) × (count ≤ 8 * length (now s) - at) × (at ≤ 134217736) ⌝ }
     ensures { λ r. ⌜ r ≡ bitsValue (now (s .entry)) at count ⌝ }
 {
@@ -123,17 +116,14 @@ fn bits_by_runs(s: &[u8], at: usize, count: usize) -> u32
     let mut done: usize = 0;
     while done < count {
         let p = at + done;
-        let from = p % 8;
-        let width = smaller(8 - from, count - done);
-        value = (value << width) + run(s[p / 8], from, width);
-        done += width;
+        value = value * 2 + bit(s[p / 8], p % 8);
+        done += 1;
     }
     value
 }
 
 fn wide(x: u8) -> u64
-    ensures { λ r. ⌜ r ≡ runOf x 0 8 ⌝ }
-    ensures { λ r. ⌜ r < 256 ⌝ }
+    ensures { λ r. ⌜ (r ≡ x % 256) × (r < 256) ⌝ }
 {
     x as u64
 }
@@ -164,7 +154,7 @@ fn bits_at(s: &[u8], at: usize, count: usize) -> u32
         let top = word(s, i) << (at % 8);
         return ((top >> 1) >> (63 - count)) as u32;
     }
-    bits_by_runs(s, at, count)
+    last_bits(s, at, count)
 }
 
 fn is_sync(a: u8, b: u8) -> bool

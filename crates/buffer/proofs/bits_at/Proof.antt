@@ -25,8 +25,8 @@ cast-result c = record { fits = rw (c .word .ensures) (cut-fits _ (c .before .be
 returns : tie.Need-returns
 returns c = rw (c .word .ensures) (cut _ (c .before .before .before .args .at) (c .before .before .before .args .count) (omega arith))
 
-bits-by-runs-requires : tie.Need-bits-by-runs-requires
-bits-by-runs-requires c κs = search needs
+last-bits-requires : tie.Need-last-bits-requires
+last-bits-requires c κs = search needs
 
 returns-2 : tie.Need-returns-2
 returns-2 c = search needs
@@ -42,5 +42,5 @@ bits-at-spec =
     shr-result
     cast-result
     returns
-    bits-by-runs-requires
+    last-bits-requires
     returns-2)
