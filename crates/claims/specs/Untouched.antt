@@ -1,0 +1,65 @@
+-- Demand 1: "A refused call leaves the samples untouched, and the synthesis memory too, but that an opening which only found no
+-- good header still clears the memory." And 01: longer memories keep the rest. Assumes nothing.
+use Prim.Native.Nat.{ℕ, _+_, _≤_, _<_}
+use mathlib.Core.Path.{_≡_, refl, sym, ap, _∙_}
+use mathlib.Core.Bool.{false}
+use mathlib.Core.List.{List, _++_}
+use native.Mathlib.Omega.{arith}
+use lib.IntN.{pos}
+use lib.Ieee.{Float, fin, nan}
+use lib.ListN.{length, getD, drop, List·getD-append}
+use lib.Seq.{getD-append-add, getD-drop}
+use borrow.Author.Tests.{lt-ltb, le-ltb}
+use Rattle.ground.specs.Table.{length-table, at-table}
+use Rattle.audio.specs.Before.{readyOf}
+use Rattle.audio.specs.Calls.{answering, remembering, sounding, afterOf, framedOf, decodeOf, decodeMemory, decodeOutput, blank, openMemory}
+use Rattle.audio.specs.declared.Audio.{Audio}
+use Rattle.audio.specs.declared.Heading.{Heading}
+use Rattle.audio.specs.declared.Heading.the-variants.{Known, Refused}
+use Rattle.audio.specs.declared.Answer.the-variants.{Refused as AnswerRefused}
+
+-- every number but a decoded frame's 0 leaves memory and output as they were
+module _ (s : List ℕ) (memory output : List Float) (a : Audio) where
+  by-verdict : (h : Heading) (b : Audio) (n : ℕ) → answering s h b .answer ≡ AnswerRefused n
+      → (remembering s memory h b ≡ memory) × (sounding s memory output h b ≡ output)
+  unfolding framedOf afterOf
+  by-verdict Known b n e = absurd (let z : _≡_ {A = ℕ} 0 1 = cc in omega arith)
+  by-verdict (Refused k) b n e = (refl, refl)
+
+  pub refused-call-leaves-all : (n : ℕ) → decodeOf s memory output a .answer ≡ AnswerRefused n
+      → (decodeMemory s memory output a ≡ memory) × (decodeOutput s memory output a ≡ output)
+  unfolding decodeOf decodeMemory decodeOutput
+  refused-call-leaves-all n e =
+      let r = readyOf s (length memory) (length output) a in by-verdict (r .answer) (r .state) n e
+
+-- an opening that gives 8 or 9 leaves the memory
+module _ (s : List ℕ) (memory : List Float) where
+  pub too-long-opening-leaves-memory : 16777216 < length s → openMemory s memory ≡ memory
+  unfolding openMemory
+  too-long-opening-leaves-memory l = simp (lt-ltb _ _ l)
+
+  pub too-small-opening-leaves-memory : length s ≤ 16777216 → length memory < 2048 → openMemory s memory ≡ memory
+  unfolding openMemory
+  too-small-opening-leaves-memory l m = simp (le-ltb _ _ l, lt-ltb _ _ m)
+
+  -- any other clears the first 2,048 values to +0.0, and no other value
+  module _ (short : length s ≤ 16777216) (long : 2048 ≤ length memory) where
+    opened : openMemory s memory ≡ blank ++ drop 2048 memory
+    unfolding openMemory
+    opened = simp (le-ltb _ _ short, le-ltb _ _ long)
+
+    many : length blank ≡ 2048
+    unfolding blank
+    many = length-table 2048 (λ _. fin false 0 (pos 0))
+
+    pub opening-clears : (i : ℕ) → i < 2048 → getD (openMemory s memory) i nan ≡ fin false 0 (pos 0)
+    unfolding blank
+    opening-clears i l =
+        rw opened (List·getD-append blank (drop 2048 memory) nan i (rw many l) ∙ at-table nan 2048 (λ _. fin false 0 (pos 0)) i l)
+
+    pub opening-keeps-the-rest : (i : ℕ) → getD (openMemory s memory) (2048 + i) nan ≡ getD memory (2048 + i) nan
+    opening-keeps-the-rest i =
+        rw opened
+        (ap (λ (k : ℕ). getD (blank ++ drop 2048 memory) (k + i) nan) (sym many)
+        ∙ getD-append-add blank (drop 2048 memory) i nan
+        ∙ getD-drop 2048 memory i nan)

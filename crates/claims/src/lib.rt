@@ -1,0 +1,1 @@
+// What the person was promised, as theorems: specs/ alone.
