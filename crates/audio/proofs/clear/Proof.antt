@@ -34,7 +34,9 @@ loop-less c = search needs
 
 loop-again : tie.Need-loop-again Inv-loop μ-loop
 unfolding ofBits
-loop-again c = let l = c .before .loop in (omega arith, simp length-set (l .inv .1), table-more nan (λ _. fin false 0 (pos 0)) (l .memory) (l .i) (omega arith) (l .inv .2))
+loop-again c =
+    let l = c .before .loop in
+    (omega arith, simp length-set (l .inv .1), table-more nan (λ _. fin false 0 (pos 0)) (l .memory) (l .i) (omega arith) (l .inv .2))
 
 same-length : tie.Need-same-length Inv-loop μ-loop
 same-length c = c .before .loop .inv .1 ∙ sym (c .before .before .pre)

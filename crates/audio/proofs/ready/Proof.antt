@@ -28,22 +28,45 @@ enum-told : tie.Need-enum-told
 enum-told c = search needs
 
 enough-requires : tie.Need-enough-requires
-enough-requires c κs = pended-small _ _ _ (sym (c .before .before .before .before .before .in-range .ensures) ∙ c .before .before .before .before .if4 .taken) (c .before .before .before .headed .ensures) (c .enum-told .given .1)
+enough-requires c κs =
+    pended-small _ _ _ (sym (c .before .before .before .before .before .in-range .ensures)
+    ∙ c .before .before .before .before .if4 .taken) (c .before .before .before .headed .ensures) (c .enum-told .given .1)
 
 enum-known-answer : tie.Need-enum-known-answer
 enum-known-answer c = search needs
 
 returns-4 : tie.Need-returns-4
 unfolding readyOf
-returns-4 c = simp (le-ltb _ _ (c .before .before .before .before .before .before .before .before .before .if1 .left), le-ltb _ _ (c .before .before .before .before .before .before .before .before .if2 .left), le-ltb _ _ (c .before .before .before .before .before .before .before .if3 .left), sym (c .before .before .before .before .before .before .in-range .ensures) ∙ c .before .before .before .before .before .if4 .taken) (goes-on _ _ _ _ (c .before .before .before .before .headed .ensures) (c .before .enum-told .given .1) (c .enough .ensures))
+returns-4 c =
+    simp (
+      le-ltb _ _ (c .before .before .before .before .before .before .before .before .before .if1 .left),
+      le-ltb _ _ (c .before .before .before .before .before .before .before .before .if2 .left),
+      le-ltb _ _ (c .before .before .before .before .before .before .before .if3 .left),
+      sym (c .before .before .before .before .before .before .in-range .ensures)
+          ∙ c .before .before .before .before .before .if4 .taken,
+    ) (goes-on _ _ _ _ (c .before .before .before .before .headed .ensures) (c .before .enum-told .given .1) (c .enough .ensures))
 
 returns-5 : tie.Need-returns-5
 unfolding readyOf
-returns-5 c = simp (le-ltb _ _ (c .before .before .before .before .before .before .before .before .before .if1 .left), le-ltb _ _ (c .before .before .before .before .before .before .before .before .if2 .left), le-ltb _ _ (c .before .before .before .before .before .before .before .if3 .left), sym (c .before .before .before .before .before .before .in-range .ensures) ∙ c .before .before .before .before .before .if4 .taken) (goes-back _ _ _ _ (c .before .before .before .before .headed .ensures) (c .before .answer .given .1))
+returns-5 c =
+    simp (
+      le-ltb _ _ (c .before .before .before .before .before .before .before .before .before .if1 .left),
+      le-ltb _ _ (c .before .before .before .before .before .before .before .before .if2 .left),
+      le-ltb _ _ (c .before .before .before .before .before .before .before .if3 .left),
+      sym (c .before .before .before .before .before .before .in-range .ensures)
+          ∙ c .before .before .before .before .before .if4 .taken,
+    ) (goes-back _ _ _ _ (c .before .before .before .before .headed .ensures) (c .before .answer .given .1))
 
 returns-6 : tie.Need-returns-6
 unfolding readyOf
-returns-6 c = simp (le-ltb _ _ (c .before .before .before .before .if1 .left), le-ltb _ _ (c .before .before .before .if2 .left), le-ltb _ _ (c .before .before .if3 .left), sym (c .before .in-range .ensures) ∙ c .if4 .left)
+returns-6 c =
+    simp (
+      le-ltb _ _ (c .before .before .before .before .if1 .left),
+      le-ltb _ _ (c .before .before .before .if2 .left),
+      le-ltb _ _ (c .before .before .if3 .left),
+      sym (c .before .in-range .ensures)
+          ∙ c .if4 .left,
+    )
 
 pub ready-spec : {M : Type 1} → statement M
 ready-spec =

@@ -20,7 +20,8 @@ shr-result : tie.Need-shr-result
 shr-result c = search needs
 
 cast-result : tie.Need-cast-result
-cast-result c = record { fits = rw (c .word .ensures) (cut-fits _ (c .before .before .before .args .at) (c .before .before .before .args .count) (omega arith)) }
+cast-result c =
+    record { fits = rw (c .word .ensures) (cut-fits _ (c .before .before .before .args .at) (c .before .before .before .args .count) (omega arith)) }
 
 returns : tie.Need-returns
 returns c = rw (c .word .ensures) (cut _ (c .before .before .before .args .at) (c .before .before .before .args .count) (omega arith))

@@ -39,13 +39,21 @@ loop-less : tie.Need-loop-less Inv-loop μ-loop
 loop-less c = search needs
 
 loop-again : tie.Need-loop-again Inv-loop μ-loop
-loop-again c = (first-later _ _ _ _ (omega arith) (sym (c .before .is-sync .ensures) ∙ c .if2 .left) (c .before .before .before .before .before .loop .inv .0), omega arith)
+loop-again c = (
+  first-later _ _ _ _ (omega arith) (sym (c .before .is-sync .ensures)
+      ∙ c .if2 .left) (c .before .before .before .before .before .loop .inv .0),
+  omega arith,
+)
 
 returns : tie.Need-returns Inv-loop μ-loop
 returns c = (first-none _ _ _ _ (omega arith) (c .before .loop .inv .0), omega arith)
 
 returns-2 : tie.Need-returns-2 Inv-loop μ-loop
-returns-2 c = (first-here _ _ _ _ (omega arith) (sym (c .before .is-sync .ensures) ∙ c .if2 .taken) (c .before .before .before .before .before .loop .inv .0), omega arith)
+returns-2 c = (
+  first-here _ _ _ _ (omega arith) (sym (c .before .is-sync .ensures)
+      ∙ c .if2 .taken) (c .before .before .before .before .before .loop .inv .0),
+  omega arith,
+)
 
 pub first-pair-spec : {M : Type 1} → statement M
 first-pair-spec =

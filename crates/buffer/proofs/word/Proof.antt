@@ -20,7 +20,13 @@ add-result : tie.Need-add-result
 add-result c = search needs
 
 returns : tie.Need-returns
-returns c = omega (arith, eight-bytes (c .before .before .before .args .s .now) (c .before .before .before .args .i), c .half2 .ensures, c .before .half .ensures)
+returns c =
+    omega (
+      arith,
+      eight-bytes (c .before .before .before .args .s .now) (c .before .before .before .args .i),
+      c .half2 .ensures,
+      c .before .half .ensures,
+    )
 
 pub word-spec : {M : Type 1} → statement M
 word-spec =

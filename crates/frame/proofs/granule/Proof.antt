@@ -18,7 +18,9 @@ mul-synthesize c = search needs
 
 synthesize-requires : tie.Need-synthesize-requires
 unfolding granuleOf
-synthesize-requires c κs = let p = c .before .before .before .before .before .before .before .before .pre in (p .4, p .6, bounded-small _ (learnt Bounded _ _ _ (c .before .before .before .read-granule .ensures) (granule-bounded _ (record { quant = p .2; factor = p .3 }) _ _ _)), p .5, omega arith)
+synthesize-requires c κs =
+    let p = c .before .before .before .before .before .before .before .before .pre in
+    (p .4, p .6, bounded-small _ (learnt Bounded _ _ _ (c .before .before .before .read-granule .ensures) (granule-bounded _ (record { quant = p .2; factor = p .3 }) _ _ _)), p .5, omega arith)
 
 same-length : tie.Need-same-length
 same-length c = search needs
@@ -28,7 +30,16 @@ same-length-2 c = search needs
 
 returns : tie.Need-returns
 unfolding granuleOf
-returns c = let e = c .before .before .before .before .before .before .before .before .read-granule .ensures in let y = c .before .before .before .before .synthesize .ensures in let a = c .before .before .before .before .before .before .before .before .before .before .before .before .before .args in ((ap (λ z. z .next) e, y .0), (y .1 .0 ∙ ap (λ z. memoryAfter (samplesOf (z .value)) (a .start .ring) (a .memory .now) 3) e, y .1 .1 ∙ ap (λ z. outputAfter (samplesOf (z .value)) (a .start .ring) (a .memory .now) (a .output .now) (192 * a .g) 3) e))
+returns c =
+    let read = c .before .before .before .before .before .before .before .before .read-granule .ensures in
+    let sound = c .before .before .before .before .synthesize .ensures in
+    let a = c .before .before .before .before .before .before .before .before .before .before .before .before .before .args in (
+      (ap (λ z. z .next) read, sound .0),
+      (
+        sound .1 .0 ∙ ap (λ z. memoryAfter (samplesOf (z .value)) (a .start .ring) (a .memory .now) 3) read,
+        sound .1 .1 ∙ ap (λ z. outputAfter (samplesOf (z .value)) (a .start .ring) (a .memory .now) (a .output .now) (192 * a .g) 3) read,
+      ),
+    )
 
 pub granule-spec : {M : Type 1} → statement M
 granule-spec =

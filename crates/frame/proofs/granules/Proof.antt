@@ -21,7 +21,10 @@ loop-holds : tie.Need-loop-holds Inv-loop μ-loop
 loop-holds c = (omega arith, refl, refl, after-none _ _ _ _ _ _ _ _)
 
 granule-requires : tie.Need-granule-requires Inv-loop μ-loop
-granule-requires c κs = let p = c .before .before .before .before .before .before .before .pre in let l = c .before .before .before .loop in (omega arith, p .0, p .1, p .2, rw (l .inv .3 .place) (place-after (p .3) (3 * l .g)), p .4, omega arith, omega arith)
+granule-requires c κs =
+    let p = c .before .before .before .before .before .before .before .pre in
+    let l = c .before .before .before .loop in
+    (omega arith, p .0, p .1, p .2, rw (l .inv .3 .place) (place-after (p .3) (3 * l .g)), p .4, omega arith, omega arith)
 
 add-g : tie.Need-add-g Inv-loop μ-loop
 add-g c = search needs
@@ -30,7 +33,15 @@ loop-less : tie.Need-loop-less Inv-loop μ-loop
 loop-less c = search needs
 
 loop-again : tie.Need-loop-again Inv-loop μ-loop
-loop-again c = let p = c .before .before .before .before .before .before .before .before .before .before .before .before .pre in let l = c .before .before .before .before .before .before .before .before .loop in let e = c .before .before .before .before .granule .ensures in (search needs, search needs, search needs, after-more _ _ _ _ _ _ _ _ (p .3) (p .5) _ _ _ _ _ (l .inv .3) _ _ _ _ (e .0 .0) (e .0 .1) (e .1 .0) (e .1 .1))
+loop-again c =
+    let p = c .before .before .before .before .before .before .before .before .before .before .before .before .pre in
+    let l = c .before .before .before .before .before .before .before .before .loop in
+    let e = c .before .before .before .before .granule .ensures in (
+      search needs,
+      search needs,
+      search needs,
+      after-more _ _ _ _ _ _ _ _ (p .3) (p .5) _ _ _ _ _ (l .inv .3) _ _ _ _ (e .0 .0) (e .0 .1) (e .1 .0) (e .1 .1),
+    )
 
 same-length : tie.Need-same-length Inv-loop μ-loop
 same-length c = search needs
@@ -40,7 +51,11 @@ same-length-2 c = search needs
 
 returns : tie.Need-returns Inv-loop μ-loop
 unfolding memoryOf outputOf
-returns c = let l = c .before .loop in let done : l .g ≡ 12 = omega arith in let a = rw done at (l .inv .3) in ((a .read, a .place), (a .kept, a .given))
+returns c =
+    let l = c .before .loop in
+    let done : l .g ≡ 12 = omega arith in
+    let a = rw done at (l .inv .3) in
+    ((a .read, a .place), (a .kept, a .given))
 
 pub granules-spec : {M : Type 1} → statement M
 granules-spec =

@@ -17,23 +17,33 @@ rate-requires : tie.Need-rate-requires
 rate-requires c κs = search needs
 
 div-frame : tie.Need-div-frame
-div-frame c = let z = sizes (c .before .before .args .bitrate) (c .before .before .args .samplerate) (omega arith) (omega arith) in omega (arith, c .rate .ensures)
+div-frame c =
+    let z = sizes (c .before .before .args .bitrate) (c .before .before .args .samplerate) (omega arith) (omega arith) in
+    omega (arith, c .rate .ensures)
 
 cast-frame : tie.Need-cast-frame
-cast-frame c = let z = sizes (c .before .before .args .bitrate) (c .before .before .args .samplerate) (omega arith) (omega arith) in rw (c .before .kbps .ensures, c .rate .ensures) (omega arith)
+cast-frame c =
+    let z = sizes (c .before .before .args .bitrate) (c .before .before .args .samplerate) (omega arith) (omega arith) in
+    rw (c .before .kbps .ensures, c .rate .ensures) (omega arith)
 
 add-frame : tie.Need-add-frame
-add-frame c = let z = sizes (c .before .before .args .bitrate) (c .before .before .args .samplerate) (omega arith) (omega arith) in rw (c .before .kbps .ensures, c .rate .ensures) (omega arith)
+add-frame c =
+    let z = sizes (c .before .before .args .bitrate) (c .before .before .args .samplerate) (omega arith) (omega arith) in
+    rw (c .before .kbps .ensures, c .rate .ensures) (omega arith)
 
 sub-result : tie.Need-sub-result
-sub-result c = let z = sizes (c .before .before .before .args .bitrate) (c .before .before .before .args .samplerate) (omega arith) (omega arith) in rw (c .before .before .kbps .ensures, c .before .rate .ensures) (omega arith)
+sub-result c =
+    let z = sizes (c .before .before .before .args .bitrate) (c .before .before .before .args .samplerate) (omega arith) (omega arith) in
+    rw (c .before .before .kbps .ensures, c .before .rate .ensures) (omega arith)
 
 returns : tie.Need-returns
 unfolding sizeOf
 returns c = rw (c .before .before .kbps .ensures, c .before .rate .ensures, c .if1 .taken)
 
 sub-result-2 : tie.Need-sub-result-2
-sub-result-2 c = let z = sizes (c .before .before .before .args .bitrate) (c .before .before .before .args .samplerate) (omega arith) (omega arith) in rw (c .before .before .kbps .ensures, c .before .rate .ensures) (omega arith)
+sub-result-2 c =
+    let z = sizes (c .before .before .before .args .bitrate) (c .before .before .before .args .samplerate) (omega arith) (omega arith) in
+    rw (c .before .before .kbps .ensures, c .before .rate .ensures) (omega arith)
 
 returns-2 : tie.Need-returns-2
 unfolding sizeOf

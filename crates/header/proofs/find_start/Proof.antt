@@ -38,11 +38,20 @@ enum-known-zeros-2 c = search needs
 
 returns-3 : tie.Need-returns-3
 unfolding startOf
-returns-3 c = c .sync .ensures ∙ ap (bySkip _ _) (sym (c .before .before .zeros .given .1) ∙ c .before .before .before .before .skip-bytes .ensures) ∙ ap (byHas _ _) (sym (c .before .before .before .before .before .enum-told2 .given .1) ∙ c .before .before .before .before .before .before .before .has .ensures)
+returns-3 c =
+    c .sync .ensures
+    ∙ ap (bySkip _ _) (sym (c .before .before .zeros .given .1)
+    ∙ c .before .before .before .before .skip-bytes .ensures)
+    ∙ ap (byHas _ _) (sym (c .before .before .before .before .before .enum-told2 .given .1)
+    ∙ c .before .before .before .before .before .before .before .has .ensures)
 
 returns-4 : tie.Need-returns-4
 unfolding startOf
-returns-4 c = ap (bySkip _ _) (sym (c .before .zeros2 .given .1) ∙ c .before .before .before .skip-bytes .ensures) ∙ ap (byHas _ _) (sym (c .before .before .before .before .enum-told2 .given .1) ∙ c .before .before .before .before .before .before .has .ensures)
+returns-4 c =
+    ap (bySkip _ _) (sym (c .before .zeros2 .given .1)
+    ∙ c .before .before .before .skip-bytes .ensures)
+    ∙ ap (byHas _ _) (sym (c .before .before .before .before .enum-told2 .given .1)
+    ∙ c .before .before .before .before .before .before .has .ensures)
 
 pub find-start-spec : {M : Type 1} → statement M
 find-start-spec =

@@ -22,7 +22,11 @@ bound-by-requires c κs = search needs
 
 returns : tie.Need-returns
 unfolding boundOf
-returns c = asked _ _ _ _ (c .before .before .before .before .field .ensures .is) (asked _ _ _ _ (c .before .before .before .field2 .ensures .is) (andThen _ _ _ _ (c .before .before .pass-check .ensures) (rw (c .bound-by .ensures) (sym (run-done _ _ _)))))
+returns c =
+    asked _ _ _ _ (c .before .before .before .before .field .ensures .is)
+    (asked _ _ _ _ (c .before .before .before .field2 .ensures .is)
+    (andThen _ _ _ _ (c .before .before .pass-check .ensures)
+    (rw (c .bound-by .ensures) (sym (run-done _ _ _)))))
 
 pub read-bound-spec : {M : Type 1} → statement M
 read-bound-spec =

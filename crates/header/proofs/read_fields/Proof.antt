@@ -20,11 +20,15 @@ enum-known-ident-2 c = search needs
 
 returns : tie.Need-returns
 unfolding fieldsOf
-returns c = andThen _ _ _ _ (ap (λ x. ran x (c .before .before .before .before .before .read-ident .result .next)) (sym (c .before .before .ident .given .1)) ∙ c .before .before .before .before .before .read-ident .ensures) (c .read-format .ensures)
+returns c =
+    andThen _ _ _ _ (ap (λ x. ran x (c .before .before .before .before .before .read-ident .result .next)) (sym (c .before .before .ident .given .1))
+    ∙ c .before .before .before .before .before .read-ident .ensures) (c .read-format .ensures)
 
 returns-2 : tie.Need-returns-2
 unfolding fieldsOf
-returns-2 c = andThen _ _ _ _ (ap (λ x. ran x (c .before .before .before .before .read-ident .result .next)) (sym (c .before .ident2 .given .1)) ∙ c .before .before .before .before .read-ident .ensures) (sym (run-done _ _ _))
+returns-2 c =
+    andThen _ _ _ _ (ap (λ x. ran x (c .before .before .before .before .read-ident .result .next)) (sym (c .before .ident2 .given .1))
+    ∙ c .before .before .before .before .read-ident .ensures) (sym (run-done _ _ _))
 
 pub read-fields-spec : {M : Type 1} → statement M
 read-fields-spec =

@@ -15,16 +15,22 @@ enum-known-rates : tie.Need-enum-known-rates
 enum-known-rates c = search needs
 
 read-rest-requires : tie.Need-read-rest-requires
-read-rest-requires c κs = learnt Rated ratesOf _ _ (ap (λ x. ran x (c .before .before .before .before .read-rates .result .next)) (sym (c .before .rates .given .1)) ∙ c .before .before .before .before .read-rates .ensures) rates-known
+read-rest-requires c κs =
+    learnt Rated ratesOf _ _ (ap (λ x. ran x (c .before .before .before .before .read-rates .result .next)) (sym (c .before .rates .given .1))
+    ∙ c .before .before .before .before .read-rates .ensures) rates-known
 
 enum-known-rates-2 : tie.Need-enum-known-rates-2
 enum-known-rates-2 c = search needs
 
 returns : tie.Need-returns
-returns c = andThen _ _ _ _ (ap (λ x. ran x (c .before .before .before .before .before .read-rates .result .next)) (sym (c .before .before .rates .given .1)) ∙ c .before .before .before .before .before .read-rates .ensures) (c .read-rest .ensures)
+returns c =
+    andThen _ _ _ _ (ap (λ x. ran x (c .before .before .before .before .before .read-rates .result .next)) (sym (c .before .before .rates .given .1))
+    ∙ c .before .before .before .before .before .read-rates .ensures) (c .read-rest .ensures)
 
 returns-2 : tie.Need-returns-2
-returns-2 c = andThen _ _ _ _ (ap (λ x. ran x (c .before .before .before .before .read-rates .result .next)) (sym (c .before .rates2 .given .1)) ∙ c .before .before .before .before .read-rates .ensures) (sym (run-done _ _ _))
+returns-2 c =
+    andThen _ _ _ _ (ap (λ x. ran x (c .before .before .before .before .read-rates .result .next)) (sym (c .before .rates2 .given .1))
+    ∙ c .before .before .before .before .read-rates .ensures) (sym (run-done _ _ _))
 
 pub read-format-spec : {M : Type 1} → statement M
 read-format-spec =

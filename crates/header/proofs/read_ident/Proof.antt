@@ -17,11 +17,19 @@ field-requires-3 c κs = search needs
 
 returns : tie.Need-returns
 unfolding identOf
-returns c = asked _ _ _ _ (c .before .before .before .before .before .before .before .field .ensures .is) (asked _ _ _ _ (c .before .before .before .before .before .before .field2 .ensures .is) (asked _ _ _ _ (c .before .before .before .before .before .field3 .ensures .is) (rw (c .before .if1 .taken) (sym (run-done _ _ _)))))
+returns c =
+    asked _ _ _ _ (c .before .before .before .before .before .before .before .field .ensures .is)
+    (asked _ _ _ _ (c .before .before .before .before .before .before .field2 .ensures .is)
+    (asked _ _ _ _ (c .before .before .before .before .before .field3 .ensures .is)
+    (rw (c .before .if1 .taken) (sym (run-done _ _ _)))))
 
 returns-2 : tie.Need-returns-2
 unfolding identOf
-returns-2 c = asked _ _ _ _ (c .before .before .before .before .before .before .field .ensures .is) (asked _ _ _ _ (c .before .before .before .before .before .field2 .ensures .is) (asked _ _ _ _ (c .before .before .before .before .field3 .ensures .is) (rw (c .if1 .left) (sym (run-done _ _ _)))))
+returns-2 c =
+    asked _ _ _ _ (c .before .before .before .before .before .before .field .ensures .is)
+    (asked _ _ _ _ (c .before .before .before .before .before .field2 .ensures .is)
+    (asked _ _ _ _ (c .before .before .before .before .field3 .ensures .is)
+    (rw (c .if1 .left) (sym (run-done _ _ _)))))
 
 pub read-ident-spec : {M : Type 1} → statement M
 read-ident-spec =

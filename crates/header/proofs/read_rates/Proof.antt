@@ -23,13 +23,20 @@ field-requires-2 c κs = search needs
 
 returns-2 : tie.Need-returns-2
 unfolding ratesOf
-returns-2 c = asked _ _ _ _ (c .before .before .before .before .before .before .before .before .field .ensures .is) (rw (c .before .before .before .before .if1 .left) (asked _ _ _ _ (c .before .before .before .field2 .ensures .is) (rw (eq-eqb _ _ (c .if2 .taken)) (sym (run-done _ _ _)))))
+returns-2 c =
+    asked _ _ _ _ (c .before .before .before .before .before .before .before .before .field .ensures .is)
+    (rw (c .before .before .before .before .if1 .left)
+    (asked _ _ _ _ (c .before .before .before .field2 .ensures .is)
+    (rw (eq-eqb _ _ (c .if2 .taken)) (sym (run-done _ _ _)))))
 
 field-requires-3 : tie.Need-field-requires-3
 field-requires-3 c κs = search needs
 
 sub-t14 : tie.Need-sub-t14
-sub-t14 c = let b = c .before .before .before .before .before .before .before .before .before .before .before .field .result .value in let n = eqb-false b 0 (neither (eqb b 0) (eqb b 15) (c .before .before .before .before .before .before .before .if1 .left) .0) in omega arith
+sub-t14 c =
+    let b = c .before .before .before .before .before .before .before .before .before .before .before .field .result .value in
+    let n = eqb-false b 0 (neither (eqb b 0) (eqb b 15) (c .before .before .before .before .before .before .before .if1 .left) .0) in
+    omega arith
 
 cast-t15 : tie.Need-cast-t15
 cast-t15 c = search needs
@@ -42,7 +49,12 @@ cast-t17 c = search needs
 
 returns-3 : tie.Need-returns-3
 unfolding ratesOf
-returns-3 c = asked _ _ _ _ (c .before .before .before .before .before .before .before .before .before .before .before .before .before .field .ensures .is) (rw (c .before .before .before .before .before .before .before .before .before .if1 .left) (asked _ _ _ _ (c .before .before .before .before .before .before .before .before .field2 .ensures .is) (rw (ne-eqb _ _ (c .before .before .before .before .before .if2 .left)) (asked _ _ _ _ (c .before .before .before .before .field3 .ensures .is) (sym (run-done _ _ _))))))
+returns-3 c =
+    asked _ _ _ _ (c .before .before .before .before .before .before .before .before .before .before .before .before .before .field .ensures .is)
+    (rw (c .before .before .before .before .before .before .before .before .before .if1 .left)
+    (asked _ _ _ _ (c .before .before .before .before .before .before .before .before .field2 .ensures .is)
+    (rw (ne-eqb _ _ (c .before .before .before .before .before .if2 .left))
+    (asked _ _ _ _ (c .before .before .before .before .field3 .ensures .is) (sym (run-done _ _ _))))))
 
 pub read-rates-spec : {M : Type 1} → statement M
 read-rates-spec =

@@ -13,7 +13,10 @@ other-format-requires c κs = search needs
 
 returns : tie.Need-returns
 unfolding restOf
-returns c = andThen _ _ _ _ (c .before .before .before .read-mode .ensures) (rw (sym (c .before .other-format .ensures) ∙ c .if1 .taken) (sym (run-done _ _ _)))
+returns c =
+    andThen _ _ _ _ (c .before .before .before .read-mode .ensures)
+    (rw (sym (c .before .other-format .ensures)
+    ∙ c .if1 .taken) (sym (run-done _ _ _)))
 
 read-bound-requires : tie.Need-read-bound-requires
 read-bound-requires c κs = search needs
@@ -23,7 +26,12 @@ data-size-requires c κs = search needs
 
 returns-2 : tie.Need-returns-2
 unfolding restOf
-returns-2 c = andThen _ _ _ _ (c .before .before .before .before .before .before .read-mode .ensures) (rw (sym (c .before .before .before .before .other-format .ensures) ∙ c .before .before .before .if1 .left) (andThen _ _ _ _ (c .before .before .read-bound .ensures) (rw (c .data-size .ensures) (sym (run-done _ _ _)))))
+returns-2 c =
+    andThen _ _ _ _ (c .before .before .before .before .before .before .read-mode .ensures)
+    (rw (sym (c .before .before .before .before .other-format .ensures)
+    ∙ c .before .before .before .if1 .left)
+    (andThen _ _ _ _ (c .before .before .read-bound .ensures)
+    (rw (c .data-size .ensures) (sym (run-done _ _ _)))))
 
 pub read-rest-spec : {M : Type 1} → statement M
 read-rest-spec =

@@ -24,13 +24,27 @@ enum-known-answer-2 : tie.Need-enum-known-answer-2
 enum-known-answer-2 c = search needs
 
 returns : tie.Need-returns
-returns c = rw (c .before .before .answer2 .given .1, c .if1 .taken) (ap (End (c .before .before .answer2 .given .0 .0)) (c .before .before .before .before .byte-of .ensures))
+returns c =
+    rw (
+      c .before .before .answer2 .given .1,
+      c .if1 .taken,
+    ) (ap (End (c .before .before .answer2 .given .0 .0)) (c .before .before .before .before .byte-of .ensures))
 
 returns-2 : tie.Need-returns-2
-returns-2 c = rw (c .before .before .before .before .answer .given .1) (cc (c .kbps .ensures, c .before .rate .ensures, c .before .before .byte-before .ensures, c .before .before .before .before .before .before .byte-of .ensures))
+returns-2 c =
+    rw (c .before .before .before .before .answer .given .1) (cc (
+      c .kbps .ensures,
+      c .before .rate .ensures,
+      c .before .before .byte-before .ensures,
+      c .before .before .before .before .before .before .byte-of .ensures,
+    ))
 
 returns-3 : tie.Need-returns-3
-returns-3 c = rw (c .before .before .answer2 .given .1, c .if1 .left) (ap (Refused (c .before .before .answer2 .given .0 .0)) (c .before .before .before .before .byte-of .ensures))
+returns-3 c =
+    rw (
+      c .before .before .answer2 .given .1,
+      c .if1 .left,
+    ) (ap (Refused (c .before .before .answer2 .given .0 .0)) (c .before .before .before .before .byte-of .ensures))
 
 pub line-of-spec : {M : Type 1} → statement M
 line-of-spec =

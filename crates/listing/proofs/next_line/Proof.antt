@@ -19,7 +19,12 @@ same-length-2 c = search needs
 
 returns : tie.Need-returns
 unfolding nextOf
-returns c = let e = c .before .before .before .before .before .before .decode .ensures in (ap {B = Listed} (λ l. record { line = l; state = c .before .before .before .before .before .before .decode .result .state }) (c .line-of .ensures) ∙ ap (listed (c .before .before .before .before .before .before .before .before .before .before .before .before .args .a .frames)) (e .0), e .1)
+returns c =
+    let e = c .before .before .before .before .before .before .decode .ensures in (
+      ap {B = Listed} (λ l. record { line = l; state = c .before .before .before .before .before .before .decode .result .state }) (c .line-of .ensures)
+          ∙ ap (listed (c .before .before .before .before .before .before .before .before .before .before .before .before .args .a .frames)) (e .0),
+      e .1,
+    )
 
 pub next-line-spec : {M : Type 1} → statement M
 next-line-spec =

@@ -10,7 +10,9 @@ enum-told : tie.Need-enum-told
 enum-told c = search needs
 
 framed-requires : tie.Need-framed-requires
-framed-requires c κs = let g = goes _ _ _ _ _ (c .before .before .before .before .before .ready .ensures) (c .before .before .enum-told .given .1) in (g .ready, g .memory-long, g .output-long)
+framed-requires c κs =
+    let g = goes _ _ _ _ _ (c .before .before .before .before .before .ready .ensures) (c .before .before .enum-told .given .1) in
+    (g .ready, g .memory-long, g .output-long)
 
 enum-known-answer : tie.Need-enum-known-answer
 enum-known-answer c = search needs
@@ -22,7 +24,9 @@ same-length-2 : tie.Need-same-length-2
 same-length-2 c = search needs
 
 returns : tie.Need-returns
-returns c = let e = c .before .before .before .before .framed .ensures in decodes _ _ _ _ _ (c .before .before .before .before .before .before .before .before .before .before .ready .ensures) (c .before .before .before .before .before .before .before .enum-told .given .1) _ _ _ (e .0) (e .1 .0) (e .1 .1)
+returns c =
+    let e = c .before .before .before .before .framed .ensures in
+    decodes _ _ _ _ _ (c .before .before .before .before .before .before .before .before .before .before .ready .ensures) (c .before .before .before .before .before .before .before .enum-told .given .1) _ _ _ (e .0) (e .1 .0) (e .1 .1)
 
 returns-2 : tie.Need-returns-2
 returns-2 c = refuses _ _ _ _ _ (c .before .before .before .before .ready .ensures) _ (c .before .answer .given .1)

@@ -17,11 +17,23 @@ attempt-requires c κs = search needs
 
 returns-2 : tie.Need-returns-2
 unfolding hasHeaderOf
-returns-2 c = simp (le-ltb _ _ (c .before .before .before .before .before .before .if1 .left), sym (c .before .before .before .before .before .in-range .ensures) ∙ c .before .before .before .before .if2 .taken, eq-eqb _ _ (c .before .if3 .taken)) (c .attempt .ensures)
+returns-2 c =
+    simp (
+      le-ltb _ _ (c .before .before .before .before .before .before .if1 .left),
+      sym (c .before .before .before .before .before .in-range .ensures)
+          ∙ c .before .before .before .before .if2 .taken,
+      eq-eqb _ _ (c .before .if3 .taken),
+    ) (c .attempt .ensures)
 
 returns-3 : tie.Need-returns-3
 unfolding hasHeaderOf
-returns-3 c = simp (le-ltb _ _ (c .before .before .before .before .before .if1 .left), sym (c .before .before .before .before .in-range .ensures) ∙ c .before .before .before .if2 .taken, ne-eqb _ _ (c .if3 .left))
+returns-3 c =
+    simp (
+      le-ltb _ _ (c .before .before .before .before .before .if1 .left),
+      sym (c .before .before .before .before .in-range .ensures)
+          ∙ c .before .before .before .if2 .taken,
+      ne-eqb _ _ (c .if3 .left),
+    )
 
 returns-4 : tie.Need-returns-4
 unfolding hasHeaderOf

@@ -31,7 +31,8 @@ same-length : tie.Need-same-length
 same-length c = search needs
 
 returns-3 : tie.Need-returns-3
-returns-3 c = opens _ _ _ (c .before .before .before .before .before .before .before .fresh-state .ensures) (c .before .before .before .before .before .before .if1 .left) (c .before .before .before .before .before .if2 .left) _ _ (c .before .before .before .clear .ensures) (c .attempt .ensures)
+returns-3 c =
+    opens _ _ _ (c .before .before .before .before .before .before .before .fresh-state .ensures) (c .before .before .before .before .before .before .if1 .left) (c .before .before .before .before .before .if2 .left) _ _ (c .before .before .before .clear .ensures) (c .attempt .ensures)
 
 pub new-spec : {M : Type 1} → statement M
 new-spec =

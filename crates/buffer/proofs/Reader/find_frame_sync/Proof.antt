@@ -32,11 +32,27 @@ add-t10 c = search needs
 
 returns-3 : tie.Need-returns-3
 unfolding searchOf
-returns-3 c = search (needs, tests, c .before .before .before .before .bit .ensures .1, ← c .before .before .before .before .before .before .first-pair .ensures .0, ← c .before .before .before .before .before .before .before .byte .ensures .1, rw (c .before .before .before .last-of .ensures) at (c .before .if3 .taken))
+returns-3 c =
+    search (
+      needs,
+      tests,
+      c .before .before .before .before .bit .ensures .1,
+      ← c .before .before .before .before .before .before .first-pair .ensures .0,
+      ← c .before .before .before .before .before .before .before .byte .ensures .1,
+      rw (c .before .before .before .last-of .ensures) at (c .before .if3 .taken),
+    )
 
 returns-4 : tie.Need-returns-4
 unfolding searchOf
-returns-4 c = search (needs, tests, c .before .before .before .bit .ensures .0, ← c .before .before .before .before .before .first-pair .ensures .0, ← c .before .before .before .before .before .before .byte .ensures .1, rw (c .before .before .last-of .ensures) at (c .if3 .left))
+returns-4 c =
+    search (
+      needs,
+      tests,
+      c .before .before .before .bit .ensures .0,
+      ← c .before .before .before .before .before .first-pair .ensures .0,
+      ← c .before .before .before .before .before .before .byte .ensures .1,
+      rw (c .before .before .last-of .ensures) at (c .if3 .left),
+    )
 
 pub find-frame-sync-spec : {M : Type 1} → statement M
 find-frame-sync-spec =

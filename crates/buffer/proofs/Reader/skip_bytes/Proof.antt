@@ -26,7 +26,14 @@ sub-t8 c = search needs
 
 returns-3 : tie.Need-returns-3
 unfolding skipBytesOf
-returns-3 c = search (needs, tests, c .before .before .bit .ensures .0, c .before .before .before .first-other .ensures .0, c .before .before .before .before .byte-after .ensures .1)
+returns-3 c =
+    search (
+      needs,
+      tests,
+      c .before .before .bit .ensures .0,
+      c .before .before .before .first-other .ensures .0,
+      c .before .before .before .before .byte-after .ensures .1,
+    )
 
 pub skip-bytes-spec : {M : Type 1} → statement M
 skip-bytes-spec =
