@@ -1,1 +1,2 @@
+pub mod Pasts
 pub mod Untouched
