@@ -36,7 +36,7 @@ fn call(audio: &mut Audio, stream: &[u8], frames: usize) -> (String, bool) {
         "frame {frames} at {} rate {rate} kbps {kbps} mode {mode} bits {bits}",
         first / 8
     );
-    (format!("{frame} time {time:016X} sum {sum:016X}"), false)
+    (format!("{frame} time {time:016x} sum {sum:016x}"), false)
 }
 
 /// The listing of one stream: calls until 1 or 7.

@@ -18,11 +18,11 @@ use Rattle.listing.specs.declared.Listed.{Listed}
 abbrev pub byteOf : Audio → ℕ
 byteOf a = a .reader .at .0 / 8
 
--- a frame: "number from 0, byte after header and check word, rate, kbps, mode, bits used". Its first bit is a byte's first, so that
+-- a frame: "number from 0, byte after header and check word, rate, kbps, mode, bits used"; its start time stands beside it for replay. Its first bit is a byte's first, so that
 -- byte lies before the aligned position by the bits used, rounded up to bytes. "calls until 1 or 7": those end the list
 abbrev pub lineBy : ℕ → Answer → Audio → Line
 lineBy number (Frame time bits) a =
-    FrameLine number (byteOf a - (bits + 7) / 8) (rateOf (a .format .samplerate)) (kbpsOf (a .format .bitrate)) (a .format .mode) bits
+    FrameLine number (byteOf a - (bits + 7) / 8) (rateOf (a .format .samplerate)) (kbpsOf (a .format .bitrate)) (a .format .mode) bits time
 lineBy number (Refused n) a = cond (eqb n 1 || eqb n 7) (End n (byteOf a)) (RefusedLine n (byteOf a))
 
 abbrev pub listed : ℕ → Decoded → Listed

@@ -15,6 +15,7 @@ pub enum Line {
         kbps: u32,
         mode: u32,
         bits: usize,
+        time: f64,
     },
     Refused {
         number: u32,
@@ -85,13 +86,14 @@ fn line_of(number: u32, answer: Answer, state: Audio) -> Line
     let f = state.format;
     let end = byte_of(state);
     match answer {
-        Answer::Frame { time: _, bits } => Line::Frame {
+        Answer::Frame { time, bits } => Line::Frame {
             number,
             at: byte_before(end, bits),
             rate: rate(f.samplerate),
             kbps: kbps(f.bitrate),
             mode: f.mode,
             bits,
+            time,
         },
         Answer::Refused(n) => {
             if (n == 1) | (n == 7) {

@@ -1,14 +1,14 @@
 use borrow.Author.Needs.{needs}
 use mathlib.Core.Path.{_≡_}
 use lib.ListN.{length}
-use Rattle.lister.proofs.list.Statement.{statement}
-use Rattle.lister.proofs.list.Tie as tie
+use Rattle.report.proofs.list.Statement.{statement}
+use Rattle.report.proofs.list.Tie as tie
 
 abbrev Inv-loop : tie.InvT-loop
-Inv-loop stream memory₀ output₀ state₀ calls₀ memory output state calls = (length memory ≡ 2048) × (length output ≡ 2304)
+Inv-loop stream marked memory₀ output₀ state₀ calls₀ memory output state calls = (length memory ≡ 2048) × (length output ≡ 2304)
 
 abbrev μ-loop : tie.MeasureT-loop
-μ-loop stream memory₀ output₀ state₀ calls₀ memory output state calls = calls
+μ-loop stream marked memory₀ output₀ state₀ calls₀ memory output state calls = calls
 
 slice-aggregate-new : tie.Need-slice-aggregate-new Inv-loop μ-loop
 slice-aggregate-new c = search needs
@@ -36,6 +36,9 @@ slice-aggregate-next-line-2 c = search needs
 
 next-line-requires : tie.Need-next-line-requires Inv-loop μ-loop
 next-line-requires c κs = search needs
+
+slice-aggregate-print-line : tie.Need-slice-aggregate-print-line Inv-loop μ-loop
+slice-aggregate-print-line c = search needs
 
 print-line-requires : tie.Need-print-line-requires Inv-loop μ-loop
 print-line-requires c κs = search needs
@@ -67,6 +70,7 @@ list-spec =
     slice-aggregate-next-line
     slice-aggregate-next-line-2
     next-line-requires
+    slice-aggregate-print-line
     print-line-requires
     returns
     loop-less

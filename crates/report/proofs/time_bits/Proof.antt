@@ -1,0 +1,16 @@
+use borrow.Author.Needs.{needs}
+use Rattle.clock.proofs.Real.{left-real}
+use Rattle.report.proofs.time_bits.Statement.{statement}
+use Rattle.report.proofs.time_bits.Tie as tie
+
+returns : tie.Need-returns
+returns c = search needs
+
+float-to-bits-result : tie.Need-float-to-bits-result
+float-to-bits-result c = left-real (c .before .args .time) (c .if1 .left)
+
+returns-2 : tie.Need-returns-2
+returns-2 c = search needs
+
+pub time-bits-spec : {M : Type 1} → statement M
+time-bits-spec = tie.close (tie.spec returns float-to-bits-result returns-2)
