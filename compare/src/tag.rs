@@ -3,7 +3,7 @@
 mod boundary {
     extern "C" {
         #[cfg(layer = "reader")]
-        pub fn tag_reader(
+        pub fn reading_reader(
             call: u32,
             stream: *const u8,
             length: usize,
@@ -14,7 +14,7 @@ mod boundary {
         #[cfg(layer = "bench")]
         pub fn tag_read_run(stream: *const u8, length: usize, at: usize, width: usize, times: usize) -> u64;
         #[cfg(layer = "header")]
-        pub fn tag_header(
+        pub fn reading_header(
             stream: *const u8,
             length: usize,
             at: usize,
@@ -103,7 +103,7 @@ mod boundary {
 #[cfg(layer = "reader")]
 pub fn reader(call: u32, stream: &[u8], at: usize, argument: usize) -> (u32, [usize; 2]) {
     let mut answer = [usize::MAX; 2];
-    let number = unsafe { boundary::tag_reader(call, stream.as_ptr(), stream.len(), at, argument, &mut answer) };
+    let number = unsafe { boundary::reading_reader(call, stream.as_ptr(), stream.len(), at, argument, &mut answer) };
     (number, answer)
 }
 
@@ -117,7 +117,7 @@ pub fn read_run(stream: &[u8], at: usize, width: usize, times: usize) -> u64 {
 #[cfg(layer = "header")]
 pub fn header(stream: &[u8], at: usize, known: [usize; 4]) -> (u32, [usize; 6]) {
     let mut answer = [usize::MAX; 6];
-    let number = unsafe { boundary::tag_header(stream.as_ptr(), stream.len(), at, &known, &mut answer) };
+    let number = unsafe { boundary::reading_header(stream.as_ptr(), stream.len(), at, &known, &mut answer) };
     (number, answer)
 }
 

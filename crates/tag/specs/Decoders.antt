@@ -11,8 +11,8 @@ use Rattle.audio.specs.declared.Rate.{Rate}
 use Rattle.audio.specs.declared.Rate.the-variants.{Hertz as Samples, Refused as RateRefused}
 use Rattle.audio.specs.declared.Answer.{Answer}
 use Rattle.audio.specs.declared.Answer.the-variants.{Frame, Refused}
-use Rattle.tag.specs.declared.decoder.Hertz.{Hertz}
-use Rattle.tag.specs.declared.decoder.Played.{Played}
+use Rattle.tag.specs.declared.Hertz.{Hertz}
+use Rattle.tag.specs.declared.Played.{Played}
 
 -- bit position, sample-rate code, bit-rate index, bound, pending data size, ring position; mode, frames; the next start
 abbrev pub stateOf : List ℕ → List ℕ → List Float → Audio

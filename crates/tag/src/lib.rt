@@ -1,253 +1,199 @@
-// The boundary that firmware links: numbers and slices, nothing else.
-mod decoder;
-
+// The boundary that firmware links: the decoder's four calls, numbers and slices and nothing else. `places`: bit position, sample-rate code,
+// bit-rate index, bound, pending data size, ring position; `counts`: mode, frames; `time`: the next start in seconds.
+use audio::Answer;
+use audio::Audio;
+use audio::Heading;
+use audio::Rate;
 use buffer::BitIndex;
-use buffer::Holds;
-use buffer::Moved;
-use buffer::Read;
 use buffer::Reader;
-use buffer::Skipped;
-use buffer::Sync;
-use buffer::Told;
-use header::Attempt;
 use header::Format;
-use header::Header;
 ghost use mathlib.Core.Path.{_≡_};
 ghost use lib.ListN.{set};
-ghost use Rattle.tag.specs.Answers.{ofHolds, ofRead, ofMoved, ofSkipped, ofTold, ofSync, callOf};
-ghost use Rattle.tag.specs.Headers.{formatOf, ofAttempt, attemptOf, stored};
+ghost use Rattle.audio.specs.Calls.{openOf, openMemory, hasHeaderOf, samplerateOf, decodeOf, decodeMemory, decodeOutput};
+ghost use Rattle.audio.specs.Numbers.{headingNumber};
+ghost use Rattle.tag.specs.Decoders.{stateOf, placesOf, countsOf, timeOf, hertzOf, playedOf};
 
-// 01's number, a value, and the bit position afterwards.
-pub struct Answer {
-    pub number: u32,
-    pub value: usize,
-    pub at: usize,
+fn restore(places: &[usize; 6], counts: &[u32; 2], time: &[f64; 1]) -> Audio
+    ensures { λ r. ⌜ r ≡ stateOf (now (places .entry)) (now (counts .entry)) (now (time .entry)) ⌝ }
+{
+    let reader = Reader {
+        at: BitIndex(places[0]),
+    };
+    let format = Format {
+        samplerate: places[1],
+        bitrate: places[2],
+        mode: counts[0],
+        bound: places[3],
+    };
+    Audio {
+        reader,
+        format,
+        frames: counts[1],
+        pending: places[4],
+        ring: places[5],
+        time: time[0],
+    }
 }
 
-fn of_holds(at: usize, h: Holds) -> Answer
-    ensures { λ r. ⌜ r ≡ ofHolds at h ⌝ }
+fn keep_places(a: Audio, places: &mut [usize; 6])
+    ensures { λ _. ⌜ now (places .exit) ≡ placesOf a (now (places .entry)) ⌝ }
+{
+    let reader = a.reader;
+    let format = a.format;
+    places[0] = reader.at.0;
+    places[1] = format.samplerate;
+    places[2] = format.bitrate;
+    places[3] = format.bound;
+    places[4] = a.pending;
+    places[5] = a.ring;
+}
+
+fn keep_counts(a: Audio, counts: &mut [u32; 2])
+    ensures { λ _. ⌜ now (counts .exit) ≡ countsOf a (now (counts .entry)) ⌝ }
+{
+    let format = a.format;
+    counts[0] = format.mode;
+    counts[1] = a.frames;
+}
+
+fn heading_number(h: Heading) -> u32
+    ensures { λ r. ⌜ r ≡ headingNumber h ⌝ }
 {
     match h {
-        Holds::Yes => Answer {
-            number: 0,
-            value: 1,
-            at,
-        },
-        Holds::No => Answer {
-            number: 0,
-            value: 0,
-            at,
-        },
-        Holds::Refused(number) => Answer {
-            number,
-            value: 0,
-            at,
-        },
+        Heading::Known => 0,
+        Heading::Refused(number) => number,
     }
 }
 
-fn of_read(at: usize, x: Read) -> Answer
-    ensures { λ r. ⌜ r ≡ ofRead at x ⌝ }
-{
-    match x {
-        Read::Value(value, next) => Answer {
-            number: 0,
-            value: value as usize,
-            at: next.at.0,
-        },
-        Read::Short => Answer {
-            number: 12,
-            value: 0,
-            at,
-        },
-        Read::Refused(number) => Answer {
-            number,
-            value: 0,
-            at,
-        },
-    }
-}
-
-fn of_moved(at: usize, m: Moved) -> Answer
-    ensures { λ r. ⌜ r ≡ ofMoved at m ⌝ }
-{
-    match m {
-        Moved::To(next) => Answer {
-            number: 0,
-            value: 0,
-            at: next.at.0,
-        },
-        Moved::Refused(number) => Answer {
-            number,
-            value: 0,
-            at,
-        },
-    }
-}
-
-fn of_skipped(at: usize, k: Skipped) -> Answer
-    ensures { λ r. ⌜ r ≡ ofSkipped at k ⌝ }
-{
-    match k {
-        Skipped::Bytes(value, next) => Answer {
-            number: 0,
-            value,
-            at: next.at.0,
-        },
-        Skipped::Refused(number) => Answer {
-            number,
-            value: 0,
-            at,
-        },
-    }
-}
-
-fn of_told(at: usize, t: Told) -> Answer
-    ensures { λ r. ⌜ r ≡ ofTold at t ⌝ }
-{
-    match t {
-        Told::At(byte) => Answer {
-            number: 0,
-            value: byte.0,
-            at,
-        },
-        Told::Refused(number) => Answer {
-            number,
-            value: 0,
-            at,
-        },
-    }
-}
-
-fn of_sync(at: usize, f: Sync) -> Answer
-    ensures { λ r. ⌜ r ≡ ofSync at f ⌝ }
-{
-    match f {
-        Sync::Found(next) => Answer {
-            number: 0,
-            value: 1,
-            at: next.at.0,
-        },
-        Sync::Missing(next) => Answer {
-            number: 0,
-            value: 0,
-            at: next.at.0,
-        },
-        Sync::Refused(number) => Answer {
-            number,
-            value: 0,
-            at,
-        },
-    }
-}
-
-fn reader_call(call: u32, stream: &[u8], at: usize, argument: usize) -> Answer
-    ensures { λ r. ⌜ r ≡ callOf call (now (stream .entry)) at argument ⌝ }
-{
-    let reader = Reader { at: BitIndex(at) };
-    match call {
-        0 => of_holds(at, reader.has(stream, argument)),
-        1 => of_holds(at, reader.has_ended(stream)),
-        2 => of_read(at, reader.read(stream, argument)),
-        3 => of_moved(at, reader.align(stream)),
-        4 => of_moved(at, reader.skip(stream, argument)),
-        5 => of_skipped(at, reader.skip_bytes(stream, (argument % 256) as u8)),
-        6 => of_told(at, reader.tell(stream)),
-        _ => of_sync(at, reader.find_frame_sync(stream)),
-    }
-}
-
-// One call of the reader: its number is returned, the value and the bit position afterwards are left in `answer`.
+// Opens a decoder on the stream: the memory cleared, the first header tried. The number is returned.
 #[no_mangle]
-pub extern "C" fn tag_reader(
-    call: u32,
+pub extern "C" fn tag_open(
     stream: &[u8],
-    at: usize,
-    argument: usize,
-    answer: &mut [usize; 2],
+    memory: &mut [f32],
+    places: &mut [usize; 6],
+    counts: &mut [u32; 2],
+    time: &mut [f64; 1],
 ) -> u32
-    ensures number { λ r. ⌜ r ≡ callOf call (now (stream .entry)) at argument .number ⌝ }
-    ensures given { λ _. let a = callOf call (now (stream .entry)) at argument in ⌜ now (answer .exit) ≡ set (set (now (answer .entry)) 0 (a .value)) 1 (a .at) ⌝ }
+    ensures number { λ r. ⌜ r ≡ headingNumber (openOf (now (stream .entry)) (now (memory .entry)) .answer) ⌝ }
+    ensures cleared { λ _. ⌜ now (memory .exit) ≡ openMemory (now (stream .entry)) (now (memory .entry)) ⌝ }
+    ensures places { λ _. ⌜ now (places .exit) ≡ placesOf (openOf (now (stream .entry)) (now (memory .entry)) .state) (now (places .entry)) ⌝ }
+    ensures counts { λ _. ⌜ now (counts .exit) ≡ countsOf (openOf (now (stream .entry)) (now (memory .entry)) .state) (now (counts .entry)) ⌝ }
+    ensures time { λ _. ⌜ now (time .exit) ≡ timeOf (openOf (now (stream .entry)) (now (memory .entry)) .state) (now (time .entry)) ⌝ }
 {
-    let a = reader_call(call, stream, at, argument);
-    answer[0] = a.value;
-    answer[1] = a.at;
-    a.number
+    let x = Audio::new(stream, memory);
+    let state = x.state;
+    let answer = x.answer;
+    keep_places(state, places);
+    keep_counts(state, counts);
+    time[0] = state.time;
+    heading_number(answer)
 }
 
-// What an attempt at a header gives: 01's number, the bit position afterwards, a format, the pending data size.
-pub struct Headed {
+// Whether a header is known, or the next attempt finds one.
+#[no_mangle]
+pub extern "C" fn tag_has_header(
+    stream: &[u8],
+    places: &mut [usize; 6],
+    counts: &mut [u32; 2],
+    time: &mut [f64; 1],
+) -> u32
+    ensures number { λ r. ⌜ r ≡ headingNumber (hasHeaderOf (now (stream .entry)) (stateOf (now (places .entry)) (now (counts .entry)) (now (time .entry))) .answer) ⌝ }
+    ensures places { λ _. ⌜ now (places .exit) ≡ placesOf (hasHeaderOf (now (stream .entry)) (stateOf (now (places .entry)) (now (counts .entry)) (now (time .entry))) .state) (now (places .entry)) ⌝ }
+    ensures counts { λ _. ⌜ now (counts .exit) ≡ countsOf (hasHeaderOf (now (stream .entry)) (stateOf (now (places .entry)) (now (counts .entry)) (now (time .entry))) .state) (now (counts .entry)) ⌝ }
+    ensures time { λ _. ⌜ now (time .exit) ≡ timeOf (hasHeaderOf (now (stream .entry)) (stateOf (now (places .entry)) (now (counts .entry)) (now (time .entry))) .state) (now (time .entry)) ⌝ }
+{
+    let x = restore(places, counts, time).has_header(stream);
+    let state = x.state;
+    let answer = x.answer;
+    keep_places(state, places);
+    keep_counts(state, counts);
+    time[0] = state.time;
+    heading_number(answer)
+}
+
+// A number and the samples a second; 0 beside a refusal.
+pub struct Hertz {
     pub number: u32,
-    pub at: usize,
-    pub format: Format,
-    pub size: usize,
+    pub rate: u32,
 }
 
-// The format that four numbers stand for. The mode is 32 bits wide: of a larger number its low 32 bits count.
-fn format(known: &[usize; 4]) -> Format
-    ensures { λ r. ⌜ r ≡ formatOf (now (known .entry)) ⌝ }
+fn of_rate(r: Rate) -> Hertz
+    ensures { λ x. ⌜ x ≡ hertzOf r ⌝ }
 {
-    Format {
-        samplerate: known[0],
-        bitrate: known[1],
-        mode: (known[2] % 4294967296) as u32,
-        bound: known[3],
+    match r {
+        Rate::Hertz(rate) => Hertz { number: 0, rate },
+        Rate::Refused(number) => Hertz { number, rate: 0 },
     }
 }
 
-fn of_attempt(known: Format, attempt: Attempt) -> Headed
-    ensures { λ r. ⌜ r ≡ ofAttempt known attempt ⌝ }
-{
-    let header = attempt.header;
-    let at = attempt.next.at.0;
-    match header {
-        Header::Accepted(format, size) => Headed {
-            number: 0,
-            at,
-            format,
-            size,
-        },
-        Header::Refused(number) => Headed {
-            number,
-            at,
-            format: known,
-            size: 0,
-        },
-    }
-}
-
-fn header_call(stream: &[u8], at: usize, known: Format) -> Headed
-    ensures { λ r. ⌜ r ≡ attemptOf (now (stream .entry)) at known ⌝ }
-{
-    let reader = Reader { at: BitIndex(at) };
-    of_attempt(known, header::decode_header(stream, reader, known))
-}
-
-fn store(h: Headed, answer: &mut [usize; 6])
-    ensures { λ _. ⌜ now (answer .exit) ≡ stored h (now (answer .entry)) ⌝ }
-{
-    let format = h.format;
-    answer[0] = h.at;
-    answer[1] = format.samplerate;
-    answer[2] = format.bitrate;
-    answer[3] = format.mode as usize;
-    answer[4] = format.bound;
-    answer[5] = h.size;
-}
-
-// One attempt at a header. `known`: sample-rate code (3: no header yet), bit-rate index, mode, bound. Its number is returned; `answer` has
-// the bit position afterwards, the format in the same order, and the pending data size: after a refusal the known format and 0.
 #[no_mangle]
-pub extern "C" fn tag_header(
-    stream: &[u8],
-    at: usize,
-    known: &[usize; 4],
-    answer: &mut [usize; 6],
+pub extern "C" fn tag_samplerate(
+    places: &[usize; 6],
+    counts: &[u32; 2],
+    time: &[f64; 1],
+    rate: &mut [u32; 1],
 ) -> u32
-    ensures number { λ r. ⌜ r ≡ attemptOf (now (stream .entry)) at (formatOf (now (known .entry))) .number ⌝ }
-    ensures given { λ _. let h = attemptOf (now (stream .entry)) at (formatOf (now (known .entry))) in ⌜ now (answer .exit) ≡ stored h (now (answer .entry)) ⌝ }
+    ensures number { λ r. ⌜ r ≡ hertzOf (samplerateOf (stateOf (now (places .entry)) (now (counts .entry)) (now (time .entry)))) .number ⌝ }
+    ensures rate { λ _. ⌜ now (rate .exit) ≡ set (now (rate .entry)) 0 (hertzOf (samplerateOf (stateOf (now (places .entry)) (now (counts .entry)) (now (time .entry)))) .rate) ⌝ }
 {
-    let h = header_call(stream, at, format(known));
-    store(h, answer);
+    let h = of_rate(restore(places, counts, time).samplerate());
+    rate[0] = h.rate;
     h.number
+}
+
+// A number, and a frame's start in seconds with the bits it used; zeros beside a refusal.
+pub struct Played {
+    pub number: u32,
+    pub start: f64,
+    pub bits: usize,
+}
+
+fn of_answer(a: Answer) -> Played
+    ensures { λ x. ⌜ x ≡ playedOf a ⌝ }
+{
+    match a {
+        Answer::Frame { time, bits } => Played {
+            number: 0,
+            start: time,
+            bits,
+        },
+        Answer::Refused(number) => Played {
+            number,
+            start: 0.0,
+            bits: 0,
+        },
+    }
+}
+
+// The next frame: its number is returned, its start and its bits are left in `start` and `bits`.
+#[no_mangle]
+pub extern "C" fn tag_decode(
+    stream: &[u8],
+    memory: &mut [f32],
+    output: &mut [f32],
+    places: &mut [usize; 6],
+    counts: &mut [u32; 2],
+    time: &mut [f64; 1],
+    start: &mut [f64; 1],
+    bits: &mut [usize; 1],
+) -> u32
+    ensures number { λ r. ⌜ r ≡ playedOf (decodeOf (now (stream .entry)) (now (memory .entry)) (now (output .entry)) (stateOf (now (places .entry)) (now (counts .entry)) (now (time .entry))) .answer) .number ⌝ }
+    ensures memory { λ _. ⌜ now (memory .exit) ≡ decodeMemory (now (stream .entry)) (now (memory .entry)) (now (output .entry)) (stateOf (now (places .entry)) (now (counts .entry)) (now (time .entry))) ⌝ }
+    ensures output { λ _. ⌜ now (output .exit) ≡ decodeOutput (now (stream .entry)) (now (memory .entry)) (now (output .entry)) (stateOf (now (places .entry)) (now (counts .entry)) (now (time .entry))) ⌝ }
+    ensures places { λ _. ⌜ now (places .exit) ≡ placesOf (decodeOf (now (stream .entry)) (now (memory .entry)) (now (output .entry)) (stateOf (now (places .entry)) (now (counts .entry)) (now (time .entry))) .state) (now (places .entry)) ⌝ }
+    ensures counts { λ _. ⌜ now (counts .exit) ≡ countsOf (decodeOf (now (stream .entry)) (now (memory .entry)) (now (output .entry)) (stateOf (now (places .entry)) (now (counts .entry)) (now (time .entry))) .state) (now (counts .entry)) ⌝ }
+    ensures time { λ _. ⌜ now (time .exit) ≡ timeOf (decodeOf (now (stream .entry)) (now (memory .entry)) (now (output .entry)) (stateOf (now (places .entry)) (now (counts .entry)) (now (time .entry))) .state) (now (time .entry)) ⌝ }
+    ensures start { λ _. ⌜ now (start .exit) ≡ set (now (start .entry)) 0 (playedOf (decodeOf (now (stream .entry)) (now (memory .entry)) (now (output .entry)) (stateOf (now (places .entry)) (now (counts .entry)) (now (time .entry))) .answer) .start) ⌝ }
+    ensures bits { λ _. ⌜ now (bits .exit) ≡ set (now (bits .entry)) 0 (playedOf (decodeOf (now (stream .entry)) (now (memory .entry)) (now (output .entry)) (stateOf (now (places .entry)) (now (counts .entry)) (now (time .entry))) .answer) .bits) ⌝ }
+{
+    let x = restore(places, counts, time).decode(stream, memory, output);
+    let state = x.state;
+    let answer = x.answer;
+    keep_places(state, places);
+    keep_counts(state, counts);
+    time[0] = state.time;
+    let p = of_answer(answer);
+    start[0] = p.start;
+    bits[0] = p.bits;
+    p.number
 }
