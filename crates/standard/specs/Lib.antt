@@ -1,0 +1,4 @@
+pub mod Related
+pub mod Layer2
+pub mod Made
+pub mod Alike
