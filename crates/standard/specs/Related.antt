@@ -52,6 +52,27 @@ related-bind R Q (done a) (ask n y) f g h k = absurd h
 related-bind R Q (ask m x) (done b) f g h k = absurd h
 related-bind R Q (ask m x) (ask n y) f g h k = (h .0, λ v l. related-bind R Q (x v) (y v) f g (h .1 v l) k)
 
+-- what follows may as well be said to follow the second part
+pub related-assoc : {A B C D : Type 0} (Q : C → D → Type 0) (m : Reads A) (f : A → Reads B) (g : B → Reads C) (n : Reads D)
+    → Related Q (m >>= λ a. f a >>= g) n → Related Q (m >>= f >>= g) n
+unfolding Related _>>=_
+related-assoc Q (done a) f g n h = h
+related-assoc Q (ask k x) f g (done d) h = h
+related-assoc Q (ask k x) f g (ask j y) h = (h .0, λ v l. related-assoc Q (x v) f g (y v) (h .1 v l))
+
+pub related-done : {A B C : Type 0} (Q : B → C → Type 0) (a : A) (f : A → Reads B) (n : Reads C) → Related Q (f a) n → Related Q (done a >>= f) n
+unfolding _>>=_
+related-done Q a f n h = h
+
+-- and what is made of the value read last
+pub related-made : {A B C : Type 0} (R : A → B → Type 0) (Q : A → C → Type 0) (h : B → C) (m : Reads A) (n : Reads B)
+    → Related R m n → ((a : A) (b : B) → R a b → Q a (h b)) → Related Q m (n >>= λ b. done (h b))
+unfolding Related _>>=_
+related-made R Q h (done a) (done b) r k = k a b r
+related-made R Q h (done a) (ask n g) r k = r
+related-made R Q h (ask m f) (done b) r k = r
+related-made R Q h (ask m f) (ask n g) r k = (r .0, λ v l. related-made R Q h (f v) (g v) (r .1 v l) k)
+
 -- subband after subband
 pub related-bands : {A B : Type 0} (P : ℕ → A → B → Type 0) (band : ℕ → A → Reads A) (band′ : ℕ → B → Reads B) (limit : ℕ)
     → ((sb : ℕ) → sb < limit → (xs : A) (ys : B) → P sb xs ys → Related (P (suc sb)) (band sb xs) (band′ sb ys))
