@@ -1,2 +1,4 @@
 pub mod Pasts
 pub mod Untouched
+pub mod Accepted
+pub mod Ring
