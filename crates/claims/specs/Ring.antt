@@ -111,21 +111,21 @@ module _ (P : ℕ → ℕ → List Float → Type 0) where
     opened-seen s m short long = simp (le-ltb _ _ short, le-ltb _ _ long) (seen-stays (attempt-keeps s fresh) (opening m long))
 
     decoded-seen : (c : Call) → Seen (c .state) (c .memory) → Seen (outcome c .state) (newMemory c)
+    unfolding decodeOf decodeMemory framedOf afterOf
     decoded-seen c h = go (before c .answer) refl
       where
         ready : Seen (frameState c) (c .memory)
         ready = seen-stays (ready-keeps (c .stream) (length (c .memory)) (length (c .output)) (c .state)) h
 
         go : (x : Heading) → before c .answer ≡ x → Seen (outcome c .state) (newMemory c)
-        unfolding decodeOf decodeMemory framedOf afterOf
         go Known e = let d = known-decodes c e in rw e (frame (c .stream) (frameState c) (c .memory) (d .goes .ready) (d .goes .memory-long) ready)
         go (Refused n) e = rw e ready
 
     refused-seen : (c : Call) (m : List Float) → length (c .memory) < 2048 → Seen (c .state) m → Seen (outcome c .state) m
+    unfolding decodeOf
     refused-seen c m short h = go (before c .answer) refl
       where
         go : (x : Heading) → before c .answer ≡ x → Seen (outcome c .state) m
-        unfolding decodeOf
         go Known e = absurd (let d = known-decodes c e .goes .memory-long in omega arith)
         go (Refused n) e = rw e (seen-stays (ready-keeps (c .stream) (length (c .memory)) (length (c .output)) (c .state)) h)
 
@@ -136,3 +136,53 @@ module _ (P : ℕ → ℕ → List Float → Type 0) where
     since-opening (decoded {a} {m} p s o) = decoded-seen (record { stream = s; memory = m; output = o; state = a }) (since-opening p)
     since-opening (refused {a} {m} p s o short l) =
         refused-seen (record { stream = s; memory = short; output = o; state = a }) m l (since-opening p)
+
+-- ---- the ring position by the count of frames
+
+-- four frames take it round
+abbrev pub home : ℕ → ℕ
+home frames = (1024 - 256 * (frames % 4)) % 1024
+
+pub record InStep (frames ring : ℕ) (m : List Float) : Type 0 where
+  pub at : ring ≡ home frames
+  pub place : Place ring
+  pub long : 2048 ≤ length m
+
+home-next : (n : ℕ) → (home n + 768) % 1024 ≡ home (n + 1)
+home-next n =
+    let e : (n % 4 + 1) % 4 ≡ (n + 1) % 4 = omega arith in
+    rw (← e) (go (n % 4) (omega arith))
+  where
+    go : (r : ℕ) → r < 4 → ((1024 - 256 * r) % 1024 + 768) % 1024 ≡ (1024 - 256 * ((r + 1) % 4)) % 1024
+    go zero l = refl
+    go (suc zero) l = refl
+    go (suc (suc zero)) l = refl
+    go (suc (suc (suc zero))) l = refl
+    go (suc (suc (suc (suc r)))) l = absurd (omega arith)
+
+opened-long : (m : List Float) → 2048 ≤ length m → length (blank ++ drop 2048 m) ≡ length m
+unfolding blank
+opened-long m long =
+    length-append blank (drop 2048 m) ∙ simp (length-table 2048 (λ _. fin false 0 (pos 0)), length-drop) (omega arith)
+
+framed-long : (s : List ℕ) (b : Audio) (m : List Float) → Ready s b → 2048 ≤ length m → length (framedMemory s b m) ≡ length m
+unfolding framedMemory memoryOf
+framed-long s b m ready long = memory-length (slotsOf (granulesAt s (b .reader) (b .format) .value)) (ready .place) m long 36
+
+in-step : {a : Audio} {m : List Float} → Past a m → InStep (a .frames) (a .ring) m
+in-step =
+    since-opening InStep (λ m long. record { at = refl; place = omega arith; long = omega (arith, opened-long m long) })
+    (λ s b m ready long h. record {
+      at = position-frame (h .place) ∙ ap (λ (p : ℕ). (p + 768) % 1024) (h .at) ∙ home-next (b .frames);
+      place = place-after (h .place) 36;
+      long = omega (arith, framed-long s b m ready long);
+    })
+
+pub ring-by-frames : {a : Audio} {m : List Float} → Past a m → a .ring ≡ (1024 - 256 * (a .frames % 4)) % 1024
+ring-by-frames p = in-step p .at
+
+pub ring-in-place : {a : Audio} {m : List Float} → Past a m → Place (a .ring)
+ring-in-place p = in-step p .place
+
+pub memory-kept-long : {a : Audio} {m : List Float} → Past a m → 2048 ≤ length m
+memory-kept-long p = in-step p .long
