@@ -1,15 +1,26 @@
 -- A call of decode and what it leaves; when it accepts a frame, and from which state: the one that has the frame's header.
 -- From demand 3, "both accept a frame", and 01, "Numbers a call can give". Assumes nothing.
-use Prim.Native.Nat.{ℕ, _-_}
+use Prim.Native.Nat.{ℕ, _+_, _-_, _*_, _≤_}
 use mathlib.Core.Path.{_≡_, refl, ap, sym, _∙_}
 use mathlib.Core.List.{List}
 use native.Mathlib.Omega.{arith}
+use lib.Dec.{eqb, ltb}
+use lib.IntN.{ℤ}
 use lib.Ieee.{Float}
 use lib.ListN.{length}
-use Rattle.frame.specs.Frame.{granulesAt}
-use Rattle.synthesis.specs.Slots.{positionAfter}
-use Rattle.audio.specs.Before.{readyOf}
-use Rattle.audio.specs.Calls.{afterOf, framedOf, framedMemory, framedOutput, answering, decodeOf, decodeMemory, decodeOutput}
+use Rattle.ground.specs.Tests.{by-test}
+use Rattle.buffer.specs.Calls.{hasOf}
+use Rattle.buffer.specs.declared.Reader.{Reader}
+use Rattle.buffer.specs.declared.Holds.{Holds}
+use Rattle.buffer.specs.declared.Holds.the-variants.{Yes, No, Refused as HoldsRefused}
+use Rattle.header.specs.Header.{headerOf}
+use Rattle.header.specs.declared.Header.{Header}
+use Rattle.header.specs.declared.Header.the-variants.{Accepted, Refused as HeaderRefused}
+use Rattle.synthesis.specs.Slots.{positionAfter, memoryAfter, outputAfter}
+use Rattle.frame.specs.Frame.{granulesAt, slotsOf, memoryOf, outputOf}
+use Rattle.audio.specs.State.{inRange}
+use Rattle.audio.specs.Before.{seeking, attemptOf, headedOf, holding, enoughOf, goesOn, pended, readyOf}
+use Rattle.audio.specs.Calls.{afterOf, framedOf, framedMemory, framedOutput, answering, decodeOf, decodeMemory, decodeOutput, hasHeaderOf}
 use Rattle.audio.specs.Facts.{Goes, goes}
 use Rattle.audio.specs.declared.Audio.{Audio}
 use Rattle.audio.specs.declared.Heading.{Heading}
@@ -17,6 +28,65 @@ use Rattle.audio.specs.declared.Heading.the-variants.{Known, Refused}
 use Rattle.audio.specs.declared.Asked.{Asked}
 use Rattle.audio.specs.declared.Decoded.{Decoded}
 use Rattle.audio.specs.declared.Answer.the-variants.{Frame, Refused as AnswerRefused}
+
+-- ---- frame count and ring position, which only a decoded frame changes
+
+pub record Stays (a b : Audio) : Type 0 where
+  pub frames : b .frames ≡ a .frames
+  pub ring : b .ring ≡ a .ring
+
+abbrev Keeps : Audio → Asked → Type 0
+Keeps a x = Stays a (x .state)
+
+stays : (a : Audio) → Stays a a
+stays a = record { frames = refl; ring = refl }
+
+pub attempt-keeps : (s : List ℕ) (a : Audio) → Keeps a (attemptOf s a)
+unfolding attemptOf
+attempt-keeps s a = let t = headerOf s (a .reader) (a .format) in go (t .next) (t .header)
+  where
+    go : (r : Reader) (h : Header) → Keeps a (seeking a r h)
+    go r (Accepted f n) = record { frames = refl; ring = refl }
+    go r (HeaderRefused n) = record { frames = refl; ring = refl }
+
+headed-keeps : (s : List ℕ) (a : Audio) → Keeps a (headedOf s a)
+unfolding headedOf
+headed-keeps s a = by-test (Keeps a) (eqb (a .pending) 0) _ _ (λ _. attempt-keeps s a) (λ _. stays a)
+
+enough-keeps : (s : List ℕ) (a : Audio) → Keeps a (enoughOf s a)
+unfolding enoughOf
+enough-keeps s a = go (hasOf s (a .reader) (8 * a .pending))
+  where
+    go : (h : Holds) → Keeps a (holding a h)
+    go Yes = stays a
+    go No = stays a
+    go (HoldsRefused n) = stays a
+
+pended-keeps : (s : List ℕ) (a : Audio) (x : Asked) → Keeps a x → Keeps a (pended s x)
+pended-keeps s a x k = go (x .answer)
+  where
+    go : (h : Heading) → Keeps a (goesOn s h (x .state))
+    go Known =
+        let e = enough-keeps s (x .state) in
+        record { frames = e .frames ∙ k .frames; ring = e .ring ∙ k .ring }
+    go (Refused n) = k
+
+pub ready-keeps : (s : List ℕ) (m o : ℕ) (a : Audio) → Stays a (readyOf s m o a .state)
+unfolding readyOf
+ready-keeps s m o a =
+    by-test (Keeps a) (ltb 16777216 (length s)) _ _ (λ _. stays a)
+    (λ _. by-test (Keeps a) (ltb m 2048) _ _ (λ _. stays a)
+    (λ _. by-test (Keeps a) (ltb o 2304) _ _ (λ _. stays a)
+    (λ _. by-test (Keeps a) (inRange a) _ _ (λ _. pended-keeps s a (headedOf s a) (headed-keeps s a)) (λ _. stays a))))
+
+pub has-header-keeps : (s : List ℕ) (a : Audio) → Stays a (hasHeaderOf s a .state)
+unfolding hasHeaderOf
+has-header-keeps s a =
+    by-test (Keeps a) (ltb 16777216 (length s)) _ _ (λ _. stays a)
+    (λ _. by-test (Keeps a) (inRange a) _ _
+    (λ _. by-test (Keeps a) (eqb (a .format .samplerate) 3) _ _ (λ _. attempt-keeps s a) (λ _. stays a)) (λ _. stays a))
+
+-- ---- a call of decode
 
 -- a decoder's state, and what it is lent
 pub record Call : Type 0 where
@@ -48,18 +118,36 @@ pub record Accepts (c : Call) : Type 0 where
   pub bits : ℕ
   pub answer : outcome c .answer ≡ Frame time bits
 
+-- the samples of its twelve granules, and where the reading of them ends
+abbrev pub granulesIn : Call → List (List ℤ)
+granulesIn c = granulesAt (c .stream) (frameState c .reader) (frameState c .format) .value
+
+abbrev pub endOf : Call → Reader
+endOf c = granulesAt (c .stream) (frameState c .reader) (frameState c .format) .next
+
 -- what it leaves, then
 pub record Decodes (c : Call) : Type 0 where
   pub goes : Goes (c .stream) (length (c .memory)) (length (c .output)) (frameState c)
-  pub outcome : outcome c ≡ framedOf (c .stream) (frameState c)
-  pub memory : newMemory c ≡ framedMemory (c .stream) (frameState c) (c .memory)
-  pub output : newOutput c ≡ framedOutput (c .stream) (frameState c) (c .memory) (c .output)
+  pub gives : outcome c ≡ framedOf (c .stream) (frameState c)
+  pub ring : outcome c .state .ring ≡ positionAfter (c .state .ring) 36
+  pub memory : newMemory c ≡ memoryAfter (slotsOf (granulesIn c)) (c .state .ring) (c .memory) 36
+  pub output : newOutput c ≡ outputAfter (slotsOf (granulesIn c)) (c .state .ring) (c .memory) (c .output) 0 36
 
 module _ (c : Call) where
+  pub before-keeps : Stays (c .state) (frameState c)
+  before-keeps = ready-keeps (c .stream) (length (c .memory)) (length (c .output)) (c .state)
+
   pub known-decodes : before c .answer ≡ Known → Decodes c
-  unfolding decodeOf decodeMemory decodeOutput
+  unfolding decodeOf decodeMemory decodeOutput framedOf afterOf framedMemory framedOutput memoryOf outputOf
   known-decodes k =
-      record { goes = goes (c .stream) (length (c .memory)) (length (c .output)) (c .state) (before c) refl k; outcome = rw k; memory = rw k; output = rw k }
+      let e = before-keeps .ring in
+      record {
+        goes = goes (c .stream) (length (c .memory)) (length (c .output)) (c .state) (before c) refl k;
+        gives = rw k;
+        ring = rw (k, e);
+        memory = rw (k, e);
+        output = rw (k, e);
+      }
 
   pub accepted-known : Accepts c → before c .answer ≡ Known
   unfolding decodeOf
@@ -73,11 +161,9 @@ module _ (c : Call) where
   accepted-decodes ok = known-decodes (accepted-known ok)
 
   -- the bits that it reports are how far the reading went
-  pub accepted-bits : (ok : Accepts c)
-      → ok .bits ≡ granulesAt (c .stream) (frameState c .reader) (frameState c .format) .next .at .0 - frameState c .reader .at .0
+  pub accepted-bits : (ok : Accepts c) → ok .bits ≡ endOf c .at .0 - frameState c .reader .at .0
   unfolding framedOf afterOf
   accepted-bits ok =
-      let e = accepted-decodes ok .outcome in
-      let b = frameState c in
-      let same : Frame (ok .time) (ok .bits) ≡ framedOf (c .stream) b .answer = sym (ok .answer) ∙ ap (λ (x : Decoded). x .answer) e in
+      let e = accepted-decodes ok .gives in
+      let same : Frame (ok .time) (ok .bits) ≡ framedOf (c .stream) (frameState c) .answer = sym (ok .answer) ∙ ap (λ (x : Decoded). x .answer) e in
       cc

@@ -2,97 +2,28 @@
 -- changes it. So the ring position goes by the count of accepted frames, "hence the remainder by 4 in demand 3" (01), and the
 -- memory stays long enough. Assumes nothing.
 use Prim.Native.Nat.{ℕ, zero, suc, _+_, _-_, _*_, _%_, _≤_, _<_}
-use mathlib.Core.Path.{_≡_, refl, sym, ap, _∙_, subst}
+use mathlib.Core.Path.{_≡_, refl, ap, _∙_}
 use mathlib.Core.Bool.{false}
 use mathlib.Core.List.{List, _++_}
 use native.Mathlib.Omega.{arith}
-use lib.Dec.{eqb, ltb}
 use lib.IntN.{pos}
 use lib.Ieee.{Float, fin}
 use lib.ListN.{length, drop, length-append, length-drop}
 use borrow.Author.Tests.{le-ltb}
-use Rattle.ground.specs.Tests.{by-test}
 use Rattle.ground.specs.Table.{length-table}
-use Rattle.buffer.specs.Calls.{hasOf}
-use Rattle.buffer.specs.declared.Reader.{Reader}
-use Rattle.buffer.specs.declared.Holds.{Holds}
-use Rattle.buffer.specs.declared.Holds.the-variants.{Yes, No, Refused as HoldsRefused}
-use Rattle.header.specs.Header.{headerOf}
-use Rattle.header.specs.declared.Header.{Header}
-use Rattle.header.specs.declared.Header.the-variants.{Accepted, Refused as HeaderRefused}
 use Rattle.window.specs.Output.{Place}
 use Rattle.synthesis.specs.Slots.{positionAfter}
 use Rattle.synthesis.specs.Ring.{place-after, position-frame}
 use Rattle.synthesis.specs.Memory.{memory-length}
 use Rattle.frame.specs.Frame.{granulesAt, slotsOf, memoryOf}
-use Rattle.audio.specs.State.{fresh, inRange}
-use Rattle.audio.specs.Before.{seeking, attemptOf, headedOf, holding, enoughOf, goesOn, pended, readyOf}
-use Rattle.audio.specs.Calls.{afterOf, framedOf, framedMemory, decodeOf, decodeMemory, blank, openOf, openMemory, hasHeaderOf}
+use Rattle.audio.specs.State.{fresh}
+use Rattle.audio.specs.Calls.{afterOf, framedOf, framedMemory, decodeOf, decodeMemory, blank, openOf, openMemory}
 use Rattle.audio.specs.Facts.{Ready}
 use Rattle.audio.specs.declared.Audio.{Audio}
 use Rattle.audio.specs.declared.Heading.{Heading}
 use Rattle.audio.specs.declared.Heading.the-variants.{Known, Refused}
-use Rattle.audio.specs.declared.Asked.{Asked}
-use Rattle.audio.specs.declared.Decoded.{Decoded}
 use Rattle.claims.specs.Pasts.{Past, opened, asked, rated, decoded, refused}
-use Rattle.claims.specs.Accepted.{Call, outcome, newMemory, before, frameState, Decodes, known-decodes}
-
--- ---- frame count and ring position stay, until a frame is decoded
-
-pub record Stays (a b : Audio) : Type 0 where
-  pub frames : b .frames ≡ a .frames
-  pub ring : b .ring ≡ a .ring
-
-abbrev Keeps : Audio → Asked → Type 0
-Keeps a x = Stays a (x .state)
-
-stays : (a : Audio) → Stays a a
-stays a = record { frames = refl; ring = refl }
-
-attempt-keeps : (s : List ℕ) (a : Audio) → Keeps a (attemptOf s a)
-unfolding attemptOf
-attempt-keeps s a = let t = headerOf s (a .reader) (a .format) in go (t .next) (t .header)
-  where
-    go : (r : Reader) (h : Header) → Keeps a (seeking a r h)
-    go r (Accepted f n) = record { frames = refl; ring = refl }
-    go r (HeaderRefused n) = record { frames = refl; ring = refl }
-
-headed-keeps : (s : List ℕ) (a : Audio) → Keeps a (headedOf s a)
-unfolding headedOf
-headed-keeps s a = by-test (Keeps a) (eqb (a .pending) 0) _ _ (λ _. attempt-keeps s a) (λ _. stays a)
-
-enough-keeps : (s : List ℕ) (a : Audio) → Keeps a (enoughOf s a)
-unfolding enoughOf
-enough-keeps s a = go (hasOf s (a .reader) (8 * a .pending))
-  where
-    go : (h : Holds) → Keeps a (holding a h)
-    go Yes = stays a
-    go No = stays a
-    go (HoldsRefused n) = stays a
-
-pended-keeps : (s : List ℕ) (a : Audio) (x : Asked) → Keeps a x → Keeps a (pended s x)
-pended-keeps s a x k = go (x .answer)
-  where
-    go : (h : Heading) → Keeps a (goesOn s h (x .state))
-    go Known =
-        let e = enough-keeps s (x .state) in
-        record { frames = e .frames ∙ k .frames; ring = e .ring ∙ k .ring }
-    go (Refused n) = k
-
-pub ready-keeps : (s : List ℕ) (m o : ℕ) (a : Audio) → Stays a (readyOf s m o a .state)
-unfolding readyOf
-ready-keeps s m o a =
-    by-test (Keeps a) (ltb 16777216 (length s)) _ _ (λ _. stays a)
-    (λ _. by-test (Keeps a) (ltb m 2048) _ _ (λ _. stays a)
-    (λ _. by-test (Keeps a) (ltb o 2304) _ _ (λ _. stays a)
-    (λ _. by-test (Keeps a) (inRange a) _ _ (λ _. pended-keeps s a (headedOf s a) (headed-keeps s a)) (λ _. stays a))))
-
-pub has-header-keeps : (s : List ℕ) (a : Audio) → Stays a (hasHeaderOf s a .state)
-unfolding hasHeaderOf
-has-header-keeps s a =
-    by-test (Keeps a) (ltb 16777216 (length s)) _ _ (λ _. stays a)
-    (λ _. by-test (Keeps a) (inRange a) _ _
-    (λ _. by-test (Keeps a) (eqb (a .format .samplerate) 3) _ _ (λ _. attempt-keeps s a) (λ _. stays a)) (λ _. stays a))
+use Rattle.claims.specs.Accepted.{Stays, attempt-keeps, ready-keeps, has-header-keeps, Call, outcome, newMemory, before, frameState, known-decodes}
 
 -- ---- so what an opening gives, and each decoded frame hands on, holds since opening
 
