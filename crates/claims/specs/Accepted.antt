@@ -1,6 +1,6 @@
 -- A call of decode and what it leaves; when it accepts a frame, and from which state: the one that has the frame's header.
 -- From demand 3, "both accept a frame", and 01, "Numbers a call can give". Assumes nothing.
-use Prim.Native.Nat.{ℕ, _+_, _-_, _*_, _≤_}
+use Prim.Native.Nat.{ℕ, _-_, _*_, _≤_, _<_}
 use mathlib.Core.Path.{_≡_, refl, ap, sym, _∙_}
 use mathlib.Core.List.{List}
 use native.Mathlib.Omega.{arith}
@@ -167,3 +167,22 @@ module _ (c : Call) where
       let e = accepted-decodes ok .gives in
       let same : Frame (ok .time) (ok .bits) ≡ framedOf (c .stream) (frameState c) .answer = sym (ok .answer) ∙ ap (λ (x : Decoded). x .answer) e in
       cc
+
+  -- a call that accepts no frame leaves frame count and ring position
+  unless-known : (before c .answer ≡ Known → ⊥) → Stays (c .state) (outcome c .state)
+  unfolding decodeOf
+  unless-known never = go (before c .answer) refl
+    where
+      go : (h : Heading) → before c .answer ≡ h → Stays (c .state) (answering (c .stream) h (frameState c) .state)
+      go Known e = absurd (never e)
+      go (Refused n) e = before-keeps
+
+  pub refused-keeps : (n : ℕ) → outcome c .answer ≡ AnswerRefused n → Stays (c .state) (outcome c .state)
+  unfolding framedOf afterOf
+  refused-keeps n e =
+      unless-known
+      (λ k. let f = ap (λ (x : Decoded). x .answer) (known-decodes k .gives) in
+      let z : _≡_ {A = ℕ} 0 1 = cc in omega arith)
+
+  pub short-keeps : length (c .memory) < 2048 → Stays (c .state) (outcome c .state)
+  short-keeps short = unless-known (λ k. let long = known-decodes k .goes .memory-long in omega arith)

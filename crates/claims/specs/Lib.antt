@@ -2,3 +2,4 @@ pub mod Pasts
 pub mod Untouched
 pub mod Accepted
 pub mod Ring
+pub mod RingOut

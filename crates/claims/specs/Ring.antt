@@ -23,7 +23,7 @@ use Rattle.audio.specs.declared.Audio.{Audio}
 use Rattle.audio.specs.declared.Heading.{Heading}
 use Rattle.audio.specs.declared.Heading.the-variants.{Known, Refused}
 use Rattle.claims.specs.Pasts.{Past, opened, asked, rated, decoded, refused}
-use Rattle.claims.specs.Accepted.{Stays, attempt-keeps, ready-keeps, has-header-keeps, Call, outcome, newMemory, before, frameState, known-decodes}
+use Rattle.claims.specs.Accepted.{Stays, attempt-keeps, has-header-keeps, Call, outcome, newMemory, before, frameState, before-keeps, known-decodes, short-keeps}
 
 -- ---- so what an opening gives, and each decoded frame hands on, holds since opening
 
@@ -46,19 +46,11 @@ module _ (P : ℕ → ℕ → List Float → Type 0) where
     decoded-seen c h = go (before c .answer) refl
       where
         ready : Seen (frameState c) (c .memory)
-        ready = seen-stays (ready-keeps (c .stream) (length (c .memory)) (length (c .output)) (c .state)) h
+        ready = seen-stays (before-keeps c) h
 
         go : (x : Heading) → before c .answer ≡ x → Seen (outcome c .state) (newMemory c)
         go Known e = let d = known-decodes c e in rw e (frame (c .stream) (frameState c) (c .memory) (d .goes .ready) (d .goes .memory-long) ready)
         go (Refused n) e = rw e ready
-
-    refused-seen : (c : Call) (m : List Float) → length (c .memory) < 2048 → Seen (c .state) m → Seen (outcome c .state) m
-    unfolding decodeOf
-    refused-seen c m short h = go (before c .answer) refl
-      where
-        go : (x : Heading) → before c .answer ≡ x → Seen (outcome c .state) m
-        go Known e = absurd (let d = known-decodes c e .goes .memory-long in omega arith)
-        go (Refused n) e = rw e (seen-stays (ready-keeps (c .stream) (length (c .memory)) (length (c .output)) (c .state)) h)
 
     pub since-opening : {a : Audio} {m : List Float} → Past a m → Seen a m
     since-opening (opened s m short long) = opened-seen s m short long
@@ -66,7 +58,7 @@ module _ (P : ℕ → ℕ → List Float → Type 0) where
     since-opening (rated p) = since-opening p
     since-opening (decoded {a} {m} p s o) = decoded-seen (record { stream = s; memory = m; output = o; state = a }) (since-opening p)
     since-opening (refused {a} {m} p s o short l) =
-        refused-seen (record { stream = s; memory = short; output = o; state = a }) m l (since-opening p)
+        seen-stays (short-keeps (record { stream = s; memory = short; output = o; state = a }) l) (since-opening p)
 
 -- ---- the ring position by the count of frames
 
