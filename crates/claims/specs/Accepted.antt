@@ -1,13 +1,13 @@
 -- A call of decode and what it leaves; when it accepts a frame, and from which state: the one that has the frame's header.
 -- From demand 3, "both accept a frame", and 01, "Numbers a call can give". Assumes nothing.
-use Prim.Native.Nat.{ℕ, _-_, _*_, _≤_, _<_}
+use Prim.Native.Nat.{ℕ, _+_, _-_, _*_, _<_}
 use mathlib.Core.Path.{_≡_, refl, ap, sym, _∙_}
 use mathlib.Core.List.{List}
 use native.Mathlib.Omega.{arith}
 use lib.Dec.{eqb, ltb}
 use lib.IntN.{ℤ}
-use lib.Ieee.{Float}
-use lib.ListN.{length}
+use lib.Ieee.{Float, nan}
+use lib.ListN.{length, getD}
 use Rattle.ground.specs.Tests.{by-test}
 use Rattle.buffer.specs.Calls.{hasOf}
 use Rattle.buffer.specs.declared.Reader.{Reader}
@@ -104,6 +104,10 @@ newMemory c = decodeMemory (c .stream) (c .memory) (c .output) (c .state)
 
 abbrev pub newOutput : Call → List Float
 newOutput c = decodeOutput (c .stream) (c .memory) (c .output) (c .state)
+
+-- sample k of a channel, left 0 and right 1, counted from 1
+abbrev pub sample : List Float → ℕ → ℕ → Float
+sample output channel k = getD output (2 * (k - 1) + channel) nan
 
 -- what was asked before the frame, and the state that has the frame's header, its reader at the first allocation bit
 abbrev pub before : Call → Asked

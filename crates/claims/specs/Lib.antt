@@ -3,3 +3,4 @@ pub mod Untouched
 pub mod Accepted
 pub mod Ring
 pub mod RingOut
+pub mod Finite

@@ -28,7 +28,7 @@ use Rattle.audio.specs.declared.Audio.{Audio}
 use Rattle.audio.specs.declared.Answer.the-variants.{Refused as AnswerRefused}
 use Rattle.claims.specs.Pasts.{Past, asked, rated, decoded, refused}
 use Rattle.claims.specs.Untouched.{refused-call-leaves-all}
-use Rattle.claims.specs.Accepted.{has-header-keeps, Call, outcome, newMemory, newOutput, frameState, Accepts, granulesIn, Decodes, accepted-decodes, accepted-bits, refused-keeps, short-keeps}
+use Rattle.claims.specs.Accepted.{has-header-keeps, Call, outcome, newMemory, newOutput, sample, frameState, Accepts, granulesIn, Decodes, accepted-decodes, accepted-bits, refused-keeps, short-keeps}
 use Rattle.claims.specs.Ring.{ring-by-frames, ring-in-place}
 
 -- ---- agreeing frames
@@ -95,10 +95,6 @@ module _ {c d : Call} (agree : Agreeing c d) where
       ∙ sym (accepted-bits d (agree .accepts′))
 
 -- ---- the samples
-
--- sample k of a channel, left 0 and right 1, counted from 1
-abbrev pub sample : List Float → ℕ → ℕ → Float
-sample output channel k = getD output (2 * (k - 1) + channel) nan
 
 -- as far as the synthesis goes two decoders are one: what lies past the rings may differ
 record Joined (a : Audio) (m : List Float) (b : Audio) (n : List Float) : Type 0 where
