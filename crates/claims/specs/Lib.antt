@@ -2,5 +2,5 @@ pub mod Pasts
 pub mod Untouched
 pub mod Accepted
 pub mod Ring
-pub mod RingOut
 pub mod Finite
+pub mod RingOut

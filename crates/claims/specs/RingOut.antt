@@ -1,7 +1,6 @@
 -- Demand 3: the last clip "rings on for 15 blocks of 32 samples, and there it must stop". Two decoders with any two pasts since opening,
 -- whose counts of accepted frames leave the same remainder by 4, accept agreeing frames: both use the same number of bits, samples 481 to
 -- 1,152 of each channel are equal, and while the accepted frames go on agreeing so, every later sample. Assumes nothing.
--- That equal samples are equal bit for bit is in Finite.
 use Prim.Native.Nat.{ℕ, _+_, _-_, _*_, _/_, _%_, _≤_, _<_}
 use mathlib.Core.Path.{_≡_, refl, sym, ap, ap₂, _∙_, subst}
 use mathlib.Core.List.{List}
@@ -30,6 +29,7 @@ use Rattle.claims.specs.Pasts.{Past, asked, rated, decoded, refused}
 use Rattle.claims.specs.Untouched.{refused-call-leaves-all}
 use Rattle.claims.specs.Accepted.{has-header-keeps, Call, outcome, newMemory, newOutput, sample, frameState, Accepts, granulesIn, Decodes, accepted-decodes, accepted-bits, refused-keeps, short-keeps}
 use Rattle.claims.specs.Ring.{ring-by-frames, ring-in-place}
+use Rattle.claims.specs.Finite.{samples-finite, BitForBit, equal-values-equal-bits}
 
 -- ---- agreeing frames
 
@@ -93,6 +93,43 @@ module _ {c d : Call} (agree : Agreeing c d) where
       accepted-bits c (agree .accepts) ∙ same-used read-alike
       ∙ ap (λ (f : Format). run (codesIn f) (d .stream) (frameState d .reader) .next .at .0 - firstBit d) format
       ∙ sym (accepted-bits d (agree .accepts′))
+
+-- the two may change places, and a call that has its bits agrees with itself
+pub agree-both-ways : {c d : Call} → Agreeing c d → Agreeing d c
+unfolding Agree
+agree-both-ways {c} {d} agree =
+    let n = same-bits-called agree in
+    record {
+      accepts = agree .accepts′;
+      accepts′ = agree .accepts;
+      samplerate = sym (agree .samplerate);
+      bitrate = sym (agree .bitrate);
+      mode = sym (agree .mode);
+      extension = agree .extension;
+      bound = agree .bound′;
+      bound′ = agree .bound;
+      present = omega (arith, agree .present′);
+      present′ = omega (arith, agree .present);
+      equal = λ i l. sym (agree .equal i (omega arith));
+    }
+
+pub agrees-with-itself : {c : Call} → Accepts c → (extension : ℕ) → frameState c .format .bound ≡ boundBy (frameState c .format .mode) extension
+    → firstBit c + bitsCalled c ≤ 8 * length (c .stream) → Agreeing c c
+unfolding Agree
+agrees-with-itself ok e b h =
+    record {
+      accepts = ok;
+      accepts′ = ok;
+      samplerate = refl;
+      bitrate = refl;
+      mode = refl;
+      extension = e;
+      bound = b;
+      bound′ = b;
+      present = h;
+      present′ = h;
+      equal = λ i l. refl;
+    }
 
 -- ---- the samples
 
@@ -192,6 +229,12 @@ module _ {c d : Call} (past : Past (c .state) (c .memory)) (past′ : Past (d .s
   rings-out channel k two late last =
       first-output agree same-ring (ring-in-place past) (2 * (k - 1) + channel) (omega arith) (omega arith)
 
+  -- "bit for bit"
+  pub rings-out-bit-for-bit : (channel k : ℕ) → channel < 2 → 481 ≤ k → k ≤ 1152
+      → BitForBit (sample (newOutput c) channel k) (sample (newOutput d) channel k)
+  rings-out-bit-for-bit channel k two late last =
+      equal-values-equal-bits 8259553 (samples-finite past (agree .accepts) channel k two (omega arith) last) (rings-out channel k two late last)
+
   begun : Joined (outcome c .state) (newMemory c) (outcome d .state) (newMemory d)
   begun = joined-after agree same-ring (ring-in-place past)
 
@@ -249,8 +292,14 @@ stay-joined (other-passes t x) =
 stay-joined (again c d t e) = joined-after e (stay-joined t .ring) (ring-in-place (past-one t))
 
 -- "every later sample is equal too"
-pub every-later-sample : {c d : Call} → Together (c .state) (c .memory) (d .state) (d .memory) → Agreeing c d
-    → (channel k : ℕ) → channel < 2 → 1 ≤ k → k ≤ 1152 → sample (newOutput c) channel k ≡ sample (newOutput d) channel k
-every-later-sample t e channel k two first last =
-    let j = stay-joined t in
-    later-output e (j .ring) (ring-in-place (past-one t)) (j .left) (j .right) (2 * (k - 1) + channel) (omega arith)
+module _ {c d : Call} (together : Together (c .state) (c .memory) (d .state) (d .memory)) (agree : Agreeing c d) where
+  pub every-later-sample : (channel k : ℕ) → channel < 2 → 1 ≤ k → k ≤ 1152 → sample (newOutput c) channel k ≡ sample (newOutput d) channel k
+  every-later-sample channel k two first last =
+      let j = stay-joined together in
+      later-output agree (j .ring) (ring-in-place (past-one together)) (j .left) (j .right) (2 * (k - 1) + channel) (omega arith)
+
+  pub every-later-sample-bit-for-bit : (channel k : ℕ) → channel < 2 → 1 ≤ k → k ≤ 1152
+      → BitForBit (sample (newOutput c) channel k) (sample (newOutput d) channel k)
+  every-later-sample-bit-for-bit channel k two first last =
+      equal-values-equal-bits 8259553 (samples-finite (past-one together) (agree .accepts) channel k two first last)
+      (every-later-sample channel k two first last)
