@@ -13,11 +13,12 @@ use Rattle.buffer.specs.Calls.{hasOf}
 use Rattle.buffer.specs.declared.Reader.{Reader}
 use Rattle.buffer.specs.declared.Holds.{Holds}
 use Rattle.buffer.specs.declared.Holds.the-variants.{Yes, No, Refused as HoldsRefused}
+use Rattle.grammar.specs.Reads.{called}
 use Rattle.header.specs.Header.{headerOf}
 use Rattle.header.specs.declared.Header.{Header}
 use Rattle.header.specs.declared.Header.the-variants.{Accepted, Refused as HeaderRefused}
 use Rattle.synthesis.specs.Slots.{positionAfter, memoryAfter, outputAfter}
-use Rattle.frame.specs.Frame.{granulesAt, slotsOf, memoryOf, outputOf}
+use Rattle.frame.specs.Frame.{codesIn, granulesAt, slotsOf, memoryOf, outputOf}
 use Rattle.audio.specs.State.{inRange}
 use Rattle.audio.specs.Before.{seeking, attemptOf, headedOf, holding, enoughOf, goesOn, pended, readyOf}
 use Rattle.audio.specs.Calls.{afterOf, framedOf, framedMemory, framedOutput, answering, decodeOf, decodeMemory, decodeOutput, hasHeaderOf}
@@ -115,6 +116,13 @@ before c = readyOf (c .stream) (length (c .memory)) (length (c .output)) (c .sta
 
 abbrev pub frameState : Call → Audio
 frameState c = before c .state
+
+-- the frame's first allocation bit, and how many bits it calls for
+abbrev pub firstBit : Call → ℕ
+firstBit c = frameState c .reader .at .0
+
+abbrev pub bitsCalled : Call → ℕ
+bitsCalled c = called (codesIn (frameState c .format)) (c .stream) (frameState c .reader)
 
 -- the answer is a frame
 pub record Accepts (c : Call) : Type 0 where

@@ -4,3 +4,4 @@ pub mod Accepted
 pub mod Ring
 pub mod Finite
 pub mod RingOut
+pub mod Widths

@@ -27,18 +27,11 @@ use Rattle.audio.specs.declared.Audio.{Audio}
 use Rattle.audio.specs.declared.Answer.the-variants.{Refused as AnswerRefused}
 use Rattle.claims.specs.Pasts.{Past, asked, rated, decoded, refused}
 use Rattle.claims.specs.Untouched.{refused-call-leaves-all}
-use Rattle.claims.specs.Accepted.{has-header-keeps, Call, outcome, newMemory, newOutput, sample, frameState, Accepts, granulesIn, Decodes, accepted-decodes, accepted-bits, refused-keeps, short-keeps}
+use Rattle.claims.specs.Accepted.{has-header-keeps, Call, outcome, newMemory, newOutput, sample, frameState, firstBit, bitsCalled, Accepts, granulesIn, Decodes, accepted-decodes, accepted-bits, refused-keeps, short-keeps}
 use Rattle.claims.specs.Ring.{ring-by-frames, ring-in-place}
 use Rattle.claims.specs.Finite.{samples-finite, BitForBit, equal-values-equal-bits}
 
 -- ---- agreeing frames
-
--- the frame's first allocation bit, and how many bits it calls for
-abbrev pub firstBit : Call → ℕ
-firstBit c = frameState c .reader .at .0
-
-abbrev pub bitsCalled : Call → ℕ
-bitsCalled c = called (codesIn (frameState c .format)) (c .stream) (frameState c .reader)
 
 -- "both accept a frame of the same sample rate, bit rate, mode and mode extension, and the bits from its first allocation bit to the
 -- last bit it calls for are all present and equal"
