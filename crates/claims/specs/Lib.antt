@@ -5,3 +5,4 @@ pub mod Ring
 pub mod Finite
 pub mod RingOut
 pub mod Widths
+pub mod Same
