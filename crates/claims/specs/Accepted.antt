@@ -8,6 +8,7 @@ use lib.Dec.{eqb, ltb}
 use lib.IntN.{ℤ}
 use lib.Ieee.{Float, nan}
 use lib.ListN.{length, getD}
+use borrow.Author.Tests.{eqb-false}
 use Rattle.ground.specs.Tests.{by-test}
 use Rattle.buffer.specs.Calls.{hasOf}
 use Rattle.buffer.specs.declared.Reader.{Reader}
@@ -20,7 +21,7 @@ use Rattle.header.specs.declared.Header.the-variants.{Accepted, Refused as Head
 use Rattle.synthesis.specs.Slots.{positionAfter, memoryAfter, outputAfter}
 use Rattle.frame.specs.Frame.{codesIn, granulesAt, slotsOf, memoryOf, outputOf}
 use Rattle.audio.specs.State.{inRange}
-use Rattle.audio.specs.Before.{seeking, attemptOf, headedOf, holding, enoughOf, goesOn, pended, readyOf}
+use Rattle.audio.specs.Before.{asked, seeking, attemptOf, headedOf, holding, enoughOf, goesOn, readyOf}
 use Rattle.audio.specs.Calls.{afterOf, framedOf, framedMemory, framedOutput, answering, decodeOf, decodeMemory, decodeOutput, hasHeaderOf}
 use Rattle.audio.specs.Facts.{Goes, goes}
 use Rattle.audio.specs.declared.Audio.{Audio}
@@ -29,6 +30,35 @@ use Rattle.audio.specs.declared.Heading.the-variants.{Known, Refused}
 use Rattle.audio.specs.declared.Asked.{Asked}
 use Rattle.audio.specs.declared.Decoded.{Decoded}
 use Rattle.audio.specs.declared.Answer.the-variants.{Frame, Refused as AnswerRefused}
+
+-- ---- what is asked before a frame: by cases, what a header attempt gives, the pending header, or a refusal
+
+module _ (s : List ℕ) (a : Audio) (Q : Asked → Type 0) (attempt : Q (attemptOf s a)) (pending : (a .pending ≡ 0 → ⊥) → Q (asked Known a))
+    (refused : (n : ℕ) → Q (asked (Refused n) a)) (short : (b : Audio) (n : ℕ) → Q (asked Known b) → Q (asked (Refused n) b)) where
+  by-header : Q (headedOf s a)
+  unfolding headedOf
+  by-header = by-test Q (eqb (a .pending) 0) _ _ (λ _. attempt) (λ e. pending (eqb-false _ _ e))
+
+  by-data : (b : Audio) → Q (asked Known b) → Q (enoughOf s b)
+  unfolding enoughOf
+  by-data b known = go (hasOf s (b .reader) (8 * b .pending))
+    where
+      go : (h : Holds) → Q (holding b h)
+      go Yes = known
+      go No = short b 7 known
+      go (HoldsRefused n) = short b n known
+
+  by-both : (h : Heading) (b : Audio) → Q (asked h b) → Q (goesOn s h b)
+  by-both Known b q = by-data b q
+  by-both (Refused n) b q = q
+
+  pub before-a-frame : (m o : ℕ) → Q (readyOf s m o a)
+  unfolding readyOf
+  before-a-frame m o =
+      by-test Q (ltb 16777216 (length s)) _ _ (λ _. refused 8)
+      (λ _. by-test Q (ltb m 2048) _ _ (λ _. refused 9)
+      (λ _. by-test Q (ltb o 2304) _ _ (λ _. refused 9)
+      (λ _. by-test Q (inRange a) _ _ (λ _. by-both (headedOf s a .answer) (headedOf s a .state) by-header) (λ _. refused 10))))
 
 -- ---- frame count and ring position, which only a decoded frame changes
 
@@ -42,43 +72,13 @@ Keeps a x = Stays a (x .state)
 stays : (a : Audio) → Stays a a
 stays a = record { frames = refl; ring = refl }
 
-pub attempt-keeps : (s : List ℕ) (a : Audio) → Keeps a (attemptOf s a)
+pub attempt-keeps : (s : List ℕ) (a : Audio) → Stays a (attemptOf s a .state)
 unfolding attemptOf
 attempt-keeps s a = let t = headerOf s (a .reader) (a .format) in go (t .next) (t .header)
   where
     go : (r : Reader) (h : Header) → Keeps a (seeking a r h)
     go r (Accepted f n) = record { frames = refl; ring = refl }
     go r (HeaderRefused n) = record { frames = refl; ring = refl }
-
-headed-keeps : (s : List ℕ) (a : Audio) → Keeps a (headedOf s a)
-unfolding headedOf
-headed-keeps s a = by-test (Keeps a) (eqb (a .pending) 0) _ _ (λ _. attempt-keeps s a) (λ _. stays a)
-
-enough-keeps : (s : List ℕ) (a : Audio) → Keeps a (enoughOf s a)
-unfolding enoughOf
-enough-keeps s a = go (hasOf s (a .reader) (8 * a .pending))
-  where
-    go : (h : Holds) → Keeps a (holding a h)
-    go Yes = stays a
-    go No = stays a
-    go (HoldsRefused n) = stays a
-
-pended-keeps : (s : List ℕ) (a : Audio) (x : Asked) → Keeps a x → Keeps a (pended s x)
-pended-keeps s a x k = go (x .answer)
-  where
-    go : (h : Heading) → Keeps a (goesOn s h (x .state))
-    go Known =
-        let e = enough-keeps s (x .state) in
-        record { frames = e .frames ∙ k .frames; ring = e .ring ∙ k .ring }
-    go (Refused n) = k
-
-pub ready-keeps : (s : List ℕ) (m o : ℕ) (a : Audio) → Stays a (readyOf s m o a .state)
-unfolding readyOf
-ready-keeps s m o a =
-    by-test (Keeps a) (ltb 16777216 (length s)) _ _ (λ _. stays a)
-    (λ _. by-test (Keeps a) (ltb m 2048) _ _ (λ _. stays a)
-    (λ _. by-test (Keeps a) (ltb o 2304) _ _ (λ _. stays a)
-    (λ _. by-test (Keeps a) (inRange a) _ _ (λ _. pended-keeps s a (headedOf s a) (headed-keeps s a)) (λ _. stays a))))
 
 pub has-header-keeps : (s : List ℕ) (a : Audio) → Stays a (hasHeaderOf s a .state)
 unfolding hasHeaderOf
@@ -147,7 +147,9 @@ pub record Decodes (c : Call) : Type 0 where
 
 module _ (c : Call) where
   pub before-keeps : Stays (c .state) (frameState c)
-  before-keeps = ready-keeps (c .stream) (length (c .memory)) (length (c .output)) (c .state)
+  before-keeps =
+      let a = c .state in
+      before-a-frame (c .stream) a (Keeps a) (attempt-keeps (c .stream) a) (λ _. stays a) (λ _. stays a) (λ _ _ k. k) (length (c .memory)) (length (c .output))
 
   pub known-decodes : before c .answer ≡ Known → Decodes c
   unfolding decodeOf decodeMemory decodeOutput framedOf afterOf framedMemory framedOutput memoryOf outputOf
