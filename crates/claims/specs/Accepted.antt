@@ -60,6 +60,14 @@ module _ (s : List ℕ) (a : Audio) (Q : Asked → Type 0) (attempt : Q (attempt
       (λ _. by-test Q (ltb o 2304) _ _ (λ _. refused 9)
       (λ _. by-test Q (inRange a) _ _ (λ _. by-both (headedOf s a .answer) (headedOf s a .state) by-header) (λ _. refused 10))))
 
+-- and has_header leaves the state, or makes one attempt
+pub has-header-leaves : (s : List ℕ) (a : Audio) (P : Audio → Type 0) → P a → P (attemptOf s a .state) → P (hasHeaderOf s a .state)
+unfolding hasHeaderOf
+has-header-leaves s a P same attempt =
+    let Q : Asked → Type 0 = λ x. P (x .state) in
+    by-test Q (ltb 16777216 (length s)) _ _ (λ _. same)
+    (λ _. by-test Q (inRange a) _ _ (λ _. by-test Q (eqb (a .format .samplerate) 3) _ _ (λ _. attempt) (λ _. same)) (λ _. same))
+
 -- ---- frame count and ring position, which only a decoded frame changes
 
 pub record Stays (a b : Audio) : Type 0 where
@@ -81,11 +89,7 @@ attempt-keeps s a = let t = headerOf s (a .reader) (a .format) in go (t .next) (
     go r (HeaderRefused n) = record { frames = refl; ring = refl }
 
 pub has-header-keeps : (s : List ℕ) (a : Audio) → Stays a (hasHeaderOf s a .state)
-unfolding hasHeaderOf
-has-header-keeps s a =
-    by-test (Keeps a) (ltb 16777216 (length s)) _ _ (λ _. stays a)
-    (λ _. by-test (Keeps a) (inRange a) _ _
-    (λ _. by-test (Keeps a) (eqb (a .format .samplerate) 3) _ _ (λ _. attempt-keeps s a) (λ _. stays a)) (λ _. stays a))
+has-header-keeps s a = has-header-leaves s a (Stays a) (stays a) (attempt-keeps s a)
 
 -- ---- a call of decode
 

@@ -3,6 +3,7 @@ pub mod Untouched
 pub mod Accepted
 pub mod Ring
 pub mod Finite
+pub mod Extension
 pub mod RingOut
 pub mod Widths
 pub mod Same
