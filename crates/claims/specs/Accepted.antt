@@ -142,7 +142,7 @@ abbrev pub endOf : Call → Reader
 endOf c = granulesAt (c .stream) (frameState c .reader) (frameState c .format) .next
 
 -- what it leaves, then
-pub record Decodes (c : Call) : Type 0 where
+pub record Leaves (c : Call) : Type 0 where
   pub goes : Goes (c .stream) (length (c .memory)) (length (c .output)) (frameState c)
   pub gives : outcome c ≡ framedOf (c .stream) (frameState c)
   pub ring : outcome c .state .ring ≡ positionAfter (c .state .ring) 36
@@ -155,9 +155,9 @@ module _ (c : Call) where
       let a = c .state in
       before-a-frame (c .stream) a (Keeps a) (attempt-keeps (c .stream) a) (λ _. stays a) (λ _. stays a) (λ _ _ k. k) (length (c .memory)) (length (c .output))
 
-  pub known-decodes : before c .answer ≡ Known → Decodes c
+  pub known-leaves : before c .answer ≡ Known → Leaves c
   unfolding decodeOf decodeMemory decodeOutput framedOf afterOf framedMemory framedOutput memoryOf outputOf
-  known-decodes k =
+  known-leaves k =
       let e = before-keeps .ring in
       record {
         goes = goes (c .stream) (length (c .memory)) (length (c .output)) (c .state) (before c) refl k;
@@ -175,14 +175,14 @@ module _ (c : Call) where
       by-verdict Known b e = refl
       by-verdict (Refused n) b e = absurd (let z : _≡_ {A = ℕ} 0 1 = cc in omega arith)
 
-  pub accepted-decodes : Accepts c → Decodes c
-  accepted-decodes ok = known-decodes (accepted-known ok)
+  pub accepted-leaves : Accepts c → Leaves c
+  accepted-leaves ok = known-leaves (accepted-known ok)
 
   -- the bits that it reports are how far the reading went
   pub accepted-bits : (ok : Accepts c) → ok .bits ≡ endOf c .at .0 - frameState c .reader .at .0
   unfolding framedOf afterOf
   accepted-bits ok =
-      let e = accepted-decodes ok .gives in
+      let e = accepted-leaves ok .gives in
       let same : Frame (ok .time) (ok .bits) ≡ framedOf (c .stream) (frameState c) .answer = sym (ok .answer) ∙ ap (λ (x : Decoded). x .answer) e in
       cc
 
@@ -199,8 +199,8 @@ module _ (c : Call) where
   unfolding framedOf afterOf
   refused-keeps n e =
       unless-known
-      (λ k. let f = ap (λ (x : Decoded). x .answer) (known-decodes k .gives) in
+      (λ k. let f = ap (λ (x : Decoded). x .answer) (known-leaves k .gives) in
       let z : _≡_ {A = ℕ} 0 1 = cc in omega arith)
 
   pub short-keeps : length (c .memory) < 2048 → Stays (c .state) (outcome c .state)
-  short-keeps short = unless-known (λ k. let long = known-decodes k .goes .memory-long in omega arith)
+  short-keeps short = unless-known (λ k. let long = known-leaves k .goes .memory-long in omega arith)

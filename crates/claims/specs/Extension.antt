@@ -1,6 +1,6 @@
 -- Every frame that is accepted since opening has a mode extension of 0 to 3, by which its bound goes: 01, "Bound: joint stereo (1) gives
 -- 4 times (extension + 1), mono (3) gives 0, others 32". So demand 3's "same mode extension" can be said by the bound. Assumes nothing.
-use Prim.Native.Nat.{ℕ, _^_, _≤_, _<_}
+use Prim.Native.Nat.{ℕ, _≤_, _<_}
 use mathlib.Core.Path.{_≡_, refl}
 use mathlib.Core.Bool.{Bool}
 use mathlib.Core.List.{List}
@@ -22,7 +22,7 @@ use Rattle.header.specs.declared.Format.{Format}
 use Rattle.header.specs.declared.Header.{Header}
 use Rattle.header.specs.declared.Header.the-variants.{Accepted, Refused as HeaderRefused}
 use Rattle.audio.specs.State.{fresh}
-use Rattle.audio.specs.Before.{asked, seeking, attemptOf, readyOf}
+use Rattle.audio.specs.Before.{asked, seeking, attemptOf}
 use Rattle.audio.specs.Calls.{afterOf, framedOf, answering, openOf, decodeOf}
 use Rattle.audio.specs.declared.Audio.{Audio}
 use Rattle.audio.specs.declared.Heading.{Heading}

@@ -7,32 +7,31 @@ use mathlib.Core.List.{List, [], _∷_, _++_}
 use native.Mathlib.Nat.{zero-add}
 use native.Mathlib.Omega.{arith}
 use native.Mathlib.Decide.{decLt}
-use lib.Dec.{T, eqb}
-use lib.IntN.{ℤ, pos, natAbs}
+use lib.Dec.{T}
+use lib.IntN.{ℤ, pos}
 use lib.Ieee.{Float, nan, inf, fin, binary32, isNan, ofBits, toBits}
 use lib.Ieee.Bits.{toBits-ofBits}
-use lib.ListN.{length, getD, take, drop, replicate, length-drop}
+use lib.ListN.{length, getD, drop, replicate, length-drop}
 use lib.Seq.{length-take-le, getD-take, getD-drop}
 use Rattle.ground.specs.Table.{table}
 use Rattle.buffer.specs.declared.Reader.{Reader}
 use Rattle.grammar.specs.Values.{Always, always-bind, always-run, anything, always-anything}
-use Rattle.tables.specs.Differences.{tableOf}
 use Rattle.header.specs.declared.Format.{Format}
-use Rattle.side.specs.Side.{cutOf, sideOf}
-use Rattle.codes.specs.Frame.{granulesOf, frameOf}
+use Rattle.side.specs.Side.{sideOf}
+use Rattle.codes.specs.Frame.{frameOf}
 use Rattle.codes.specs.Values.{Bounded, All, frame-bounded}
-use Rattle.window.specs.Output.{Place, nought}
+use Rattle.window.specs.Output.{nought}
 use Rattle.synthesis.specs.Slots.{leftOf, rightOf, samplesOf}
 use Rattle.finite.specs.Within.{Within}
 use Rattle.finite.specs.Halving.{Quiet}
 use Rattle.finite.specs.Run.{Hushed, Calm, cleared-calm, calm-after, output-within}
-use Rattle.frame.specs.Frame.{codesIn, limitIn, granulesAt, slotsOf, memoryOf}
+use Rattle.frame.specs.Frame.{codesIn, granulesAt, slotsOf, memoryOf}
 use Rattle.frame.proofs.Twelve.{granules-many}
 use Rattle.audio.specs.Calls.{framedMemory, blank}
 use Rattle.audio.specs.Facts.{Ready}
 use Rattle.audio.specs.declared.Audio.{Audio}
 use Rattle.claims.specs.Pasts.{Past}
-use Rattle.claims.specs.Accepted.{Call, newOutput, sample, frameState, Accepts, granulesIn, accepted-decodes}
+use Rattle.claims.specs.Accepted.{Call, newOutput, sample, frameState, Accepts, granulesIn, accepted-leaves}
 use Rattle.claims.specs.Ring.{since-opening, ring-in-place, memory-kept-long}
 
 -- ---- a frame's samples are small, whatever the stream
@@ -102,7 +101,7 @@ memory-finite {a} {m} p i l = go (decLt i 1024)
 pub samples-finite : {c : Call} → Past (c .state) (c .memory) → Accepts c
     → (channel k : ℕ) → channel < 2 → 1 ≤ k → k ≤ 1152 → Within 8259553 (sample (newOutput c) channel k)
 samples-finite {c} p ok channel k two first last =
-    let d = accepted-decodes c ok in
+    let d = accepted-leaves c ok in
     rw (d .output, ← zero-add (2 * (k - 1) + channel))
     (output-within (slotsOf (granulesIn c)) (ring-in-place p) (c .memory) (memory-kept-long p) (calm-since p) 36
     (frame-quiet (c .stream) (frameState c .reader) (frameState c .format)) (c .output) 0 (d .goes .output-long) (2 * (k - 1) + channel) (omega arith))

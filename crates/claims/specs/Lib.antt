@@ -7,3 +7,4 @@ pub mod Extension
 pub mod RingOut
 pub mod Widths
 pub mod Same
+pub mod Example

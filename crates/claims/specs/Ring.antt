@@ -23,7 +23,7 @@ use Rattle.audio.specs.declared.Audio.{Audio}
 use Rattle.audio.specs.declared.Heading.{Heading}
 use Rattle.audio.specs.declared.Heading.the-variants.{Known, Refused}
 use Rattle.claims.specs.Pasts.{Past, opened, asked, rated, decoded, refused}
-use Rattle.claims.specs.Accepted.{Stays, attempt-keeps, has-header-keeps, Call, outcome, newMemory, before, frameState, before-keeps, known-decodes, short-keeps}
+use Rattle.claims.specs.Accepted.{Stays, attempt-keeps, has-header-keeps, Call, outcome, newMemory, before, frameState, before-keeps, known-leaves, short-keeps}
 
 -- ---- so what an opening gives, and each decoded frame hands on, holds since opening
 
@@ -49,7 +49,7 @@ module _ (P : ℕ → ℕ → List Float → Type 0) where
         ready = seen-stays (before-keeps c) h
 
         go : (x : Heading) → before c .answer ≡ x → Seen (outcome c .state) (newMemory c)
-        go Known e = let d = known-decodes c e in rw e (frame (c .stream) (frameState c) (c .memory) (d .goes .ready) (d .goes .memory-long) ready)
+        go Known e = let d = known-leaves c e in rw e (frame (c .stream) (frameState c) (c .memory) (d .goes .ready) (d .goes .memory-long) ready)
         go (Refused n) e = rw e ready
 
     pub since-opening : {a : Audio} {m : List Float} → Past a m → Seen a m

@@ -2,7 +2,7 @@
 -- whose counts of accepted frames leave the same remainder by 4, accept agreeing frames: both use the same number of bits, samples 481 to
 -- 1,152 of each channel are equal, and while the accepted frames go on agreeing so, every later sample. Assumes nothing.
 use Prim.Native.Nat.{ℕ, _+_, _-_, _*_, _/_, _%_, _≤_, _<_}
-use mathlib.Core.Path.{_≡_, refl, sym, ap, ap₂, _∙_, subst}
+use mathlib.Core.Path.{_≡_, refl, sym, ap, ap₂, _∙_}
 use mathlib.Core.List.{List}
 use native.Mathlib.Nat.{zero-add}
 use native.Mathlib.Omega.{arith}
@@ -10,15 +10,12 @@ use native.Mathlib.Decide.{ℕ-discrete}
 use lib.IntN.{ℤ}
 use lib.Ieee.{Float, nan}
 use lib.ListN.{length, getD}
-use Rattle.buffer.specs.Laws.{Enough}
-use Rattle.buffer.specs.declared.Reader.{Reader}
 use Rattle.grammar.specs.Reads.{run, called}
 use Rattle.grammar.specs.Widths.{Agree, Alike, alike, same-used}
 use Rattle.header.specs.Header.{boundBy}
 use Rattle.header.specs.declared.Format.{Format}
 use Rattle.window.specs.Output.{Place}
-use Rattle.synthesis.specs.Slots.{positionAfter, ringAfter, outputsAt, leftOf, rightOf, memoryAfter, outputAfter}
-use Rattle.synthesis.specs.Memory.{memory-left, memory-right}
+use Rattle.synthesis.specs.Slots.{positionAfter, outputsAt, leftOf, rightOf, memoryAfter, outputAfter}
 use Rattle.synthesis.specs.Output.{output-even, output-odd}
 use Rattle.synthesis.specs.Wash.{left-washed, right-washed, output-washed}
 use Rattle.frame.specs.Frame.{codesIn, granulesAt, slotsOf}
@@ -27,7 +24,7 @@ use Rattle.audio.specs.declared.Audio.{Audio}
 use Rattle.audio.specs.declared.Answer.the-variants.{Refused as AnswerRefused}
 use Rattle.claims.specs.Pasts.{Past, asked, rated, decoded, refused}
 use Rattle.claims.specs.Untouched.{refused-call-leaves-all}
-use Rattle.claims.specs.Accepted.{has-header-keeps, Call, outcome, newMemory, newOutput, sample, frameState, firstBit, bitsCalled, Accepts, granulesIn, Decodes, accepted-decodes, accepted-bits, refused-keeps, short-keeps}
+use Rattle.claims.specs.Accepted.{has-header-keeps, Call, outcome, newMemory, newOutput, sample, frameState, firstBit, bitsCalled, Accepts, granulesIn, Leaves, accepted-leaves, accepted-bits, refused-keeps, short-keeps}
 use Rattle.claims.specs.Ring.{ring-by-frames, ring-in-place}
 use Rattle.claims.specs.Finite.{samples-finite, BitForBit, equal-values-equal-bits}
 
@@ -64,8 +61,8 @@ module _ {c d : Call} (agree : Agreeing c d) where
 
   read-alike : Alike (codesIn (frameState c .format)) (c .stream) (frameState c .reader) (d .stream) (frameState d .reader)
   read-alike =
-      let x = accepted-decodes c (agree .accepts) .goes .ready .short in
-      let y = accepted-decodes d (agree .accepts′) .goes .ready .short in
+      let x = accepted-leaves c (agree .accepts) .goes .ready .short in
+      let y = accepted-leaves d (agree .accepts′) .goes .ready .short in
       alike (codesIn (frameState c .format)) (c .stream) (d .stream) (frameState c .reader) (frameState d .reader)
       (record { short = x; near = omega (arith, agree .present); enough = omega (arith, agree .present) })
       (record { short = y; near = omega (arith, agree .present′); enough = omega (arith, agree .present′) }) (agree .equal)
@@ -152,21 +149,21 @@ module _ (f : ℕ → ℕ → List ℤ) (p : ℕ) (m n : List Float) (left : lef
 -- what a call that accepts a frame leaves, by its ring position and granules
 module _ (x : Call) (ok : Accepts x) (p : ℕ) (at : x .state .ring ≡ p) (granules : List (List ℤ)) (is : granulesIn x ≡ granules) where
   memory-is : newMemory x ≡ memoryAfter (slotsOf granules) p (x .memory) 36
-  memory-is = accepted-decodes x ok .memory ∙ ap₂ (λ q g. memoryAfter (slotsOf g) q (x .memory) 36) at is
+  memory-is = accepted-leaves x ok .memory ∙ ap₂ (λ q g. memoryAfter (slotsOf g) q (x .memory) 36) at is
 
   output-is : newOutput x ≡ outputAfter (slotsOf granules) p (x .memory) (x .output) 0 36
-  output-is = accepted-decodes x ok .output ∙ ap₂ (λ q g. outputAfter (slotsOf g) q (x .memory) (x .output) 0 36) at is
+  output-is = accepted-leaves x ok .output ∙ ap₂ (λ q g. outputAfter (slotsOf g) q (x .memory) (x .output) 0 36) at is
 
 -- two calls that accept agreeing frames, at one ring position
 module _ {c d : Call} (agree : Agreeing c d) (ring : c .state .ring ≡ d .state .ring) (place : Place (c .state .ring)) where
   abbrev f : ℕ → ℕ → List ℤ
   f = slotsOf (granulesIn d)
 
-  abbrev lent : Decodes c
-  lent = accepted-decodes c (agree .accepts)
+  abbrev lent : Leaves c
+  lent = accepted-leaves c (agree .accepts)
 
-  abbrev lent′ : Decodes d
-  lent′ = accepted-decodes d (agree .accepts′)
+  abbrev lent′ : Leaves d
+  lent′ = accepted-leaves d (agree .accepts′)
 
   ring-after : outcome c .state .ring ≡ outcome d .state .ring
   ring-after = lent .ring ∙ ap (λ (p : ℕ). positionAfter p 36) ring ∙ sym (lent′ .ring)
