@@ -1,5 +1,6 @@
--- A call of decode and what it leaves; when it accepts a frame, and from which state: the one that has the frame's header.
--- From demand 3, "both accept a frame", and 01, "Numbers a call can give". Assumes nothing.
+-- A call of decode and what it leaves; when it accepts a frame, and from which state: the one that has the frame's header. A call that
+-- accepts none leaves frame count and ring position. From demand 3, "both accept a frame", and 01, "Numbers a call can give".
+-- Assumes nothing.
 use Prim.Native.Nat.{ℕ, _+_, _-_, _*_, _<_}
 use mathlib.Core.Path.{_≡_, refl, ap, sym, _∙_}
 use mathlib.Core.List.{List}

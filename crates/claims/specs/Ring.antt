@@ -25,7 +25,7 @@ use Rattle.audio.specs.declared.Heading.the-variants.{Known, Refused}
 use Rattle.claims.specs.Pasts.{Past, opened, asked, rated, decoded, refused}
 use Rattle.claims.specs.Accepted.{Stays, attempt-keeps, has-header-keeps, Call, outcome, newMemory, before, frameState, before-keeps, known-leaves, short-keeps}
 
--- ---- so what an opening gives, and each decoded frame hands on, holds since opening
+-- ---- what an opening gives, and each decoded frame hands on, holds since opening
 
 module _ (P : ℕ → ℕ → List Float → Type 0) where
   -- P of a decoder's frame count, ring position and memory
@@ -63,13 +63,13 @@ module _ (P : ℕ → ℕ → List Float → Type 0) where
 -- ---- the ring position by the count of frames
 
 -- four frames take it round
-abbrev pub home : ℕ → ℕ
+abbrev home : ℕ → ℕ
 home frames = (1024 - 256 * (frames % 4)) % 1024
 
-pub record InStep (frames ring : ℕ) (m : List Float) : Type 0 where
-  pub at : ring ≡ home frames
-  pub place : Place ring
-  pub long : 2048 ≤ length m
+record InStep (frames ring : ℕ) (m : List Float) : Type 0 where
+  at : ring ≡ home frames
+  place : Place ring
+  long : 2048 ≤ length m
 
 home-next : (n : ℕ) → (home n + 768) % 1024 ≡ home (n + 1)
 home-next n =

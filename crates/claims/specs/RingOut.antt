@@ -31,7 +31,8 @@ use Rattle.claims.specs.Finite.{samples-finite, BitForBit, equal-values-
 -- ---- agreeing frames
 
 -- "both accept a frame of the same sample rate, bit rate, mode and mode extension, and the bits from its first allocation bit to the
--- last bit it calls for are all present and equal"
+-- last bit it calls for are all present and equal". The second calls for as many (`same-bits-called`), and each accepted frame has an
+-- extension (Extension)
 pub record Agreeing (c d : Call) : Type 0 where
   pub accepts : Accepts c
   pub accepts′ : Accepts d
@@ -168,7 +169,7 @@ module _ {c d : Call} (agree : Agreeing c d) (ring : c .state .ring ≡ d .state
   ring-after : outcome c .state .ring ≡ outcome d .state .ring
   ring-after = lent .ring ∙ ap (λ (p : ℕ). positionAfter p 36) ring ∙ sym (lent′ .ring)
 
-  memories : {T : Type 0} (half : List Float → T)
+  memories : (half : List Float → List Float)
       → half (memoryAfter f (c .state .ring) (c .memory) 36) ≡ half (memoryAfter f (c .state .ring) (d .memory) 36) → half (newMemory c) ≡ half (newMemory d)
   memories half e =
       ap half (memory-is c (agree .accepts) (c .state .ring) refl (granulesIn d) (same-granules agree)) ∙ e
