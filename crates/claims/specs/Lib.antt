@@ -1,3 +1,11 @@
 pub mod Pasts
 pub mod Untouched
+pub mod Accepted
+pub mod Ring
+pub mod Finite
+pub mod Extension
+pub mod RingOut
+pub mod Widths
+pub mod Same
+pub mod Example
 pub mod Rows

@@ -23,7 +23,7 @@ use Rattle.finite.specs.Sums.{output-of-within}
 
 -- ---- one channel
 
-pub Hushed : List Float → Type 0
+unfoldable pub Hushed : List Float → Type 0
 Hushed ring = (i : ℕ) → i < 1024 → Within (2 ^ 36) (getD ring i nan)
 
 move : {a b : Float} → a ≡ b → Within (2 ^ 36) b → Within (2 ^ 36) a

@@ -1,0 +1,118 @@
+-- Demand 3's premises can be met: two decoders opened on 01's frame of zeros, FF FD A0 00 and 622 zero bytes, with any two memories and
+-- outputs, accept it, agree, and both use 188 bits. Assumes nothing.
+use Prim.Native.Nat.{ℕ, _+_, _-_, _*_, _%_, _≤_, _<_}
+use mathlib.Core.Path.{_≡_, refl, sym, ap, _∙_}
+use mathlib.Core.Bool.{true, false}
+use mathlib.Core.List.{List}
+use lib.Dec.{lit≤}
+use lib.IntN.{pos}
+use lib.Ieee.{Float, fin, isNan, toBits, ofInt, div}
+use lib.ListN.{length}
+use borrow.Author.Tests.{le-ltb}
+use Rattle.ground.specs.First.{firstFrom}
+use Rattle.buffer.specs.Bits.{bitAt, bitsValue}
+use Rattle.buffer.specs.Calls.{readerAt, readOf, fieldOf, hasOf, skipBytesOf}
+use Rattle.grammar.specs.Reads.{_>>=_, run, called}
+use Rattle.grammar.specs.Widths.{Agree}
+use Rattle.header.specs.Header.{headerOf, startOf, syncOf, fieldsOf, identOf, ratesOf, restOf, modeOf, boundOf, checkOf, sizeOf}
+use Rattle.codes.specs.Rows.{zeros, row-188}
+use Rattle.frame.specs.Frame.{codesIn, granulesAt}
+use Rattle.clock.specs.Clock.{sameBits, onTime, startOf as timeOf}
+use Rattle.audio.specs.State.{fresh, numbersOk, inRange}
+use Rattle.audio.specs.Before.{asked, attemptOf, headedOf, enoughOf, readyOf}
+use Rattle.audio.specs.Calls.{afterOf, framedOf, decodeOf, openOf, openMemory}
+use Rattle.audio.specs.declared.Audio.{Audio}
+use Rattle.audio.specs.declared.Asked.{Asked}
+use Rattle.audio.specs.declared.Heading.the-variants.{Known}
+use Rattle.claims.specs.Pasts.{Past, opened}
+use Rattle.claims.specs.Accepted.{Call, newOutput, sample, before, frameState, firstBit, bitsCalled, Accepts}
+use Rattle.claims.specs.Ring.{memory-kept-long}
+use Rattle.claims.specs.Widths.{bits-are-the-widths}
+use Rattle.claims.specs.RingOut.{Agreeing, rings-out}
+
+-- the state after the header
+abbrev headed : Audio
+headed =
+    record {
+      reader = readerAt 32;
+      format = record { samplerate = 0; bitrate = 9; mode = 0; bound = 32 };
+      frames = 0;
+      pending = 622;
+      ring = 0;
+      time = fin false 0 (pos 0);
+    }
+
+found : attemptOf zeros fresh ≡ asked Known headed
+unfolding attemptOf fresh headerOf startOf syncOf hasOf skipBytesOf fieldOf readOf bitsValue bitAt firstFrom run _>>=_ fieldsOf identOf ratesOf restOf modeOf boundOf checkOf sizeOf
+found = refl
+
+sound : inRange headed ≡ true
+unfolding inRange numbersOk onTime timeOf sameBits isNan toBits ofInt div
+sound = refl
+
+headed-calls : called (codesIn (headed .format)) zeros (headed .reader) ≡ 188
+unfolding codesIn
+headed-calls = row-188
+
+-- a decoder opened on it with any memory, lent any output
+abbrev opening : List Float → List Float → Call
+opening m o = record { stream = zeros; memory = openMemory zeros m; output = o; state = openOf zeros m .state }
+
+module _ (m o : List Float) (long : 2048 ≤ length m) (room : 2304 ≤ length o) where
+  opened-on-zeros : Past (opening m o .state) (opening m o .memory)
+  opened-on-zeros = opened zeros m (lit≤ tt) long
+
+  at-header : opening m o .state ≡ headed
+  unfolding openOf
+  at-header = simp (le-ltb _ _ long) (ap (λ (x : Asked). x .state) found)
+
+  before-zeros : before (opening m o) ≡ asked Known headed
+  unfolding readyOf headedOf enoughOf hasOf
+  before-zeros = simp (at-header, le-ltb _ _ (memory-kept-long opened-on-zeros), le-ltb _ _ room, sound)
+
+  pub zeros-accepted : Accepts (opening m o)
+  unfolding decodeOf framedOf afterOf
+  zeros-accepted =
+      record { time = fin false 0 (pos 0); bits = granulesAt zeros (readerAt 32) (headed .format) .next .at .0 - 32; answer = rw before-zeros }
+
+  frame-state : frameState (opening m o) ≡ headed
+  frame-state = ap (λ (x : Asked). x .state) before-zeros
+
+  calls-188 : bitsCalled (opening m o) ≡ 188
+  calls-188 = ap (λ (a : Audio). called (codesIn (a .format)) zeros (a .reader)) frame-state ∙ headed-calls
+
+  begins-at-32 : firstBit (opening m o) ≡ 32
+  begins-at-32 = ap (λ (a : Audio). a .reader .at .0) frame-state
+
+  all-there : firstBit (opening m o) + bitsCalled (opening m o) ≤ 8 * length zeros
+  all-there = rw (calls-188, begins-at-32) (lit≤ tt)
+
+  pub zeros-use-188-bits : zeros-accepted .bits ≡ 188
+  zeros-use-188-bits = bits-are-the-widths zeros-accepted all-there ∙ calls-188
+
+pub zeros-agree : (m n o u : List Float) → 2048 ≤ length m → 2048 ≤ length n → 2304 ≤ length o → 2304 ≤ length u → Agreeing (opening m o) (opening n u)
+unfolding Agree
+zeros-agree m n o u lm ln lo lu =
+    let f = frame-state m o lm lo in
+    let g = frame-state n u ln lu in
+    let e : frameState (opening m o) ≡ frameState (opening n u) = f ∙ sym g in
+    record {
+      accepts = zeros-accepted m o lm lo;
+      accepts′ = zeros-accepted n u ln lu;
+      samplerate = ap (λ (a : Audio). a .format .samplerate) e;
+      bitrate = ap (λ (a : Audio). a .format .bitrate) e;
+      mode = ap (λ (a : Audio). a .format .mode) e;
+      extension = 0;
+      bound = rw f;
+      bound′ = rw g;
+      present = all-there m o lm lo;
+      present′ = rw (calls-188 m o lm lo, begins-at-32 n u ln lu) (lit≤ tt);
+      equal = λ i l. ap (λ (a : Audio). bitAt zeros (a .reader .at .0 + i)) e;
+    }
+
+-- so demand 3 says of them what it says
+pub zeros-ring-out : (m n o u : List Float) → 2048 ≤ length m → 2048 ≤ length n → 2304 ≤ length o → 2304 ≤ length u
+    → (channel k : ℕ) → channel < 2 → 481 ≤ k → k ≤ 1152 → sample (newOutput (opening m o)) channel k ≡ sample (newOutput (opening n u)) channel k
+zeros-ring-out m n o u lm ln lo lu =
+    rings-out (opened-on-zeros m o lm lo) (opened-on-zeros n u ln lu)
+    (ap (λ (a : Audio). a .frames % 4) (at-header m o lm lo ∙ sym (at-header n u ln lu))) (zeros-agree m n o u lm ln lo lu)

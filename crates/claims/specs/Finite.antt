@@ -1,0 +1,127 @@
+-- From opening no ring value and no sample of an accepted frame is a NaN or an infinity, so that equal samples are equal bit for bit:
+-- a NaN, which many bit patterns stand for, cannot arise. For demand 3's "equal bit for bit", and demand 2's. Assumes nothing.
+use Prim.Native.Nat.{ℕ, zero, suc, _+_, _-_, _*_, _/_, _%_, _^_, _≤_, _<_}
+use mathlib.Core.Path.{_≡_, refl, sym, ap, _∙_, subst}
+use mathlib.Core.Bool.{Bool, not}
+use mathlib.Core.List.{List, [], _∷_, _++_}
+use native.Mathlib.Nat.{zero-add}
+use native.Mathlib.Omega.{arith}
+use native.Mathlib.Decide.{decLt}
+use lib.Dec.{T}
+use lib.IntN.{ℤ, pos}
+use lib.Ieee.{Float, nan, inf, fin, binary32, isNan, ofBits, toBits}
+use lib.Ieee.Bits.{toBits-ofBits}
+use lib.ListN.{length, getD, drop, replicate, length-drop}
+use lib.Seq.{length-take-le, getD-take, getD-drop}
+use Rattle.ground.specs.Table.{table}
+use Rattle.buffer.specs.declared.Reader.{Reader}
+use Rattle.grammar.specs.Values.{Always, always-bind, always-run, anything, always-anything}
+use Rattle.header.specs.declared.Format.{Format}
+use Rattle.side.specs.Side.{sideOf}
+use Rattle.codes.specs.Frame.{frameOf}
+use Rattle.codes.specs.Values.{Bounded, All, frame-bounded}
+use Rattle.window.specs.Output.{nought}
+use Rattle.synthesis.specs.Slots.{leftOf, rightOf, samplesOf}
+use Rattle.finite.specs.Within.{Within}
+use Rattle.finite.specs.Halving.{Quiet}
+use Rattle.finite.specs.Run.{Hushed, Calm, cleared-calm, calm-after, output-within}
+use Rattle.frame.specs.Frame.{codesIn, granulesAt, slotsOf, memoryOf}
+use Rattle.frame.proofs.Twelve.{granules-many}
+use Rattle.audio.specs.Calls.{framedMemory, blank}
+use Rattle.audio.specs.Facts.{Ready}
+use Rattle.audio.specs.declared.Audio.{Audio}
+use Rattle.claims.specs.Pasts.{Past}
+use Rattle.claims.specs.Accepted.{Call, newOutput, sample, frameState, Accepts, granulesIn, accepted-leaves}
+use Rattle.claims.specs.Ring.{since-opening, ring-in-place, memory-kept-long}
+
+-- ---- a frame's samples are small, whatever the stream
+
+frame-many : (mono : Bool) (table bound limit : ℕ) → Always (λ gs. length gs ≡ 12) (frameOf mono table bound limit)
+unfolding frameOf
+frame-many mono table bound limit =
+    always-bind anything (λ gs. length gs ≡ 12) (sideOf mono table bound limit) _ (always-anything (sideOf mono table bound limit))
+    (λ side _. granules-many side bound limit 12)
+
+all-at : (gs : List (List ℤ)) → All Bounded gs → (i : ℕ) → i < length gs → Bounded (getD gs i [])
+unfolding All
+all-at [] p i l = absurd (omega arith)
+all-at (g ∷ gs) p zero l = p .0
+all-at (g ∷ gs) p (suc i) l = all-at gs (p .1) i (omega arith)
+
+slot-quiet : (xs : List ℤ) (ch n : ℕ) → ch < 2 → n < 3 → Bounded xs → Quiet (samplesOf xs ch n)
+unfolding samplesOf
+slot-quiet xs ch n c l b =
+    let from = 64 * n + 32 * ch in
+    record {
+      many = length-take-le 32 (drop from xs) (omega (arith, length-drop from xs, b .many));
+      small = λ i h. rw (getD-take 32 (drop from xs) i (pos 0) h, getD-drop from xs i (pos 0)) (b .each (from + i));
+    }
+
+frame-quiet : (s : List ℕ) (r : Reader) (f : Format) (ch : ℕ) → ch < 2 → (n : ℕ) → n < 36 → Quiet (slotsOf (granulesAt s r f .value) ch n)
+unfolding granulesAt codesIn
+frame-quiet s r f ch c n l =
+    let many = always-run (λ gs. length gs ≡ 12) (codesIn f) s r (frame-many _ _ _ _) in
+    let small = always-run (All Bounded) (codesIn f) s r (frame-bounded _ _ _ _) in
+    slot-quiet _ ch (n % 3) c (omega arith) (all-at _ small (n / 3) (omega arith))
+
+-- ---- the memory, through any calls since opening
+
+-- n values of +0.0, over a variable, so that 2,048 of them are never written out
+zeros : (n : ℕ) → table n (λ _. nought) ≡ replicate n nought
+unfolding table
+zeros zero = refl
+zeros (suc n) = ap (λ (l : List Float). nought ∷ l) (zeros n)
+
+opened-calm : (more : List Float) → Calm (blank ++ more)
+unfolding blank
+opened-calm more = subst (λ (l : List Float). Calm (l ++ more)) (sym (zeros 2048)) (cleared-calm 2048 more (omega arith))
+
+framed-calm : (s : List ℕ) (b : Audio) (m : List Float) → Ready s b → 2048 ≤ length m → Calm m → Calm (framedMemory s b m)
+unfolding framedMemory memoryOf
+framed-calm s b m ready long calm =
+    calm-after (slotsOf (granulesAt s (b .reader) (b .format) .value)) (ready .place) m long calm 36 (frame-quiet s (b .reader) (b .format))
+
+calm-since : {a : Audio} {m : List Float} → Past a m → Calm m
+calm-since = since-opening (λ _ _ m. Calm m) (λ m _. opened-calm (drop 2048 m)) framed-calm
+
+-- every ring value is finite, and at most 2 ^ 36
+pub memory-finite : {a : Audio} {m : List Float} → Past a m → (i : ℕ) → i < 2048 → Within (2 ^ 36) (getD m i nan)
+unfolding Hushed leftOf rightOf
+memory-finite {a} {m} p i l = go (decLt i 1024)
+  where
+    up : ¬ (i < 1024) → 1024 + (i - 1024) ≡ i
+    up x = omega arith
+
+    go : Dec (i < 1024) → Within (2 ^ 36) (getD m i nan)
+    go (yes x) = rw (getD-take 1024 m i nan x) at (calm-since p .left i x)
+    go (no x) =
+        rw (getD-take 1024 (drop 1024 m) (i - 1024) nan (omega arith), getD-drop 1024 m (i - 1024) nan, up x) at (calm-since p .right (i - 1024) (omega arith))
+
+-- every sample of an accepted frame is finite, and at most 8,259,553
+pub samples-finite : {c : Call} → Past (c .state) (c .memory) → Accepts c
+    → (channel k : ℕ) → channel < 2 → 1 ≤ k → k ≤ 1152 → Within 8259553 (sample (newOutput c) channel k)
+samples-finite {c} p ok channel k two first last =
+    let d = accepted-leaves c ok in
+    rw (d .output, ← zero-add (2 * (k - 1) + channel))
+    (output-within (slotsOf (granulesIn c)) (ring-in-place p) (c .memory) (memory-kept-long p) (calm-since p) 36
+    (frame-quiet (c .stream) (frameState c .reader) (frameState c .format)) (c .output) 0 (d .goes .output-long) (2 * (k - 1) + channel) (omega arith))
+
+-- ---- bit for bit
+
+-- of two values: whatever bit patterns stand for them, they are one pattern
+unfoldable pub BitForBit : Float → Float → Type 0
+BitForBit x y = (b c : ℕ) → b < 2 ^ 32 → c < 2 ^ 32 → ofBits binary32 b ≡ x → ofBits binary32 c ≡ y → b ≡ c
+
+no-nan : (n : ℕ) (x : Float) → Within n x → T (not (isNan x))
+unfolding isNan
+no-nan n nan h = absurd h
+no-nan n (inf s) h = absurd h
+no-nan n (fin s m e) h = tt
+
+the-pattern : (n b : ℕ) (x : Float) → Within n x → b < 2 ^ 32 → ofBits binary32 b ≡ x → toBits binary32 x ≡ b
+the-pattern n b x h l e =
+    ap (toBits binary32) (sym e) ∙ toBits-ofBits binary32 b l (subst (λ (y : Float). T (not (isNan y))) (sym e) (no-nan n x h))
+
+pub equal-values-equal-bits : {x y : Float} (n : ℕ) → Within n x → x ≡ y → BitForBit x y
+unfolding BitForBit
+equal-values-equal-bits {x} {y} n h same b c lb lc e f = sym (the-pattern n b x h lb e) ∙ the-pattern n c x h lc (f ∙ sym same)

@@ -1,0 +1,296 @@
+-- Demand 3: the last clip "rings on for 15 blocks of 32 samples, and there it must stop". Two decoders with any two pasts since opening,
+-- whose counts of accepted frames leave the same remainder by 4, accept agreeing frames: both use the same number of bits, samples 481 to
+-- 1,152 of each channel are equal, and while the accepted frames go on agreeing so, every later sample. Assumes nothing.
+use Prim.Native.Nat.{ℕ, _+_, _-_, _*_, _/_, _%_, _≤_, _<_}
+use mathlib.Core.Path.{_≡_, refl, sym, ap, ap₂, _∙_}
+use mathlib.Core.List.{List}
+use native.Mathlib.Nat.{zero-add}
+use native.Mathlib.Omega.{arith}
+use native.Mathlib.Decide.{ℕ-discrete}
+use lib.IntN.{ℤ}
+use lib.Ieee.{Float, nan}
+use lib.ListN.{length, getD}
+use Rattle.grammar.specs.Reads.{run, called}
+use Rattle.grammar.specs.Widths.{Agree, Alike, alike, same-used}
+use Rattle.header.specs.Header.{boundBy}
+use Rattle.header.specs.declared.Format.{Format}
+use Rattle.window.specs.Output.{Place}
+use Rattle.synthesis.specs.Slots.{positionAfter, outputsAt, leftOf, rightOf, memoryAfter, outputAfter}
+use Rattle.synthesis.specs.Output.{output-even, output-odd}
+use Rattle.synthesis.specs.Wash.{left-washed, right-washed, output-washed}
+use Rattle.frame.specs.Frame.{codesIn, granulesAt, slotsOf}
+use Rattle.audio.specs.Calls.{decodeOf, decodeMemory, hasHeaderOf}
+use Rattle.audio.specs.declared.Audio.{Audio}
+use Rattle.audio.specs.declared.Answer.the-variants.{Refused as AnswerRefused}
+use Rattle.claims.specs.Pasts.{Past, asked, rated, decoded, refused}
+use Rattle.claims.specs.Untouched.{refused-call-leaves-all}
+use Rattle.claims.specs.Accepted.{has-header-keeps, Call, outcome, newMemory, newOutput, sample, frameState, firstBit, bitsCalled, Accepts, granulesIn, Leaves, accepted-leaves, accepted-bits, refused-keeps, short-keeps}
+use Rattle.claims.specs.Ring.{ring-by-frames, ring-in-place}
+use Rattle.claims.specs.Finite.{samples-finite, BitForBit, equal-values-equal-bits}
+
+-- ---- agreeing frames
+
+-- "both accept a frame of the same sample rate, bit rate, mode and mode extension, and the bits from its first allocation bit to the
+-- last bit it calls for are all present and equal". The second calls for as many (`same-bits-called`), and each accepted frame has an
+-- extension (Extension)
+pub record Agreeing (c d : Call) : Type 0 where
+  pub accepts : Accepts c
+  pub accepts′ : Accepts d
+  pub samplerate : frameState c .format .samplerate ≡ frameState d .format .samplerate
+  pub bitrate : frameState c .format .bitrate ≡ frameState d .format .bitrate
+  pub mode : frameState c .format .mode ≡ frameState d .format .mode
+  pub extension : ℕ
+  pub bound : frameState c .format .bound ≡ boundBy (frameState c .format .mode) extension
+  pub bound′ : frameState d .format .bound ≡ boundBy (frameState d .format .mode) extension
+  pub present : firstBit c + bitsCalled c ≤ 8 * length (c .stream)
+  pub present′ : firstBit d + bitsCalled c ≤ 8 * length (d .stream)
+  pub equal : Agree (c .stream) (firstBit c) (d .stream) (firstBit d) (bitsCalled c)
+
+one-format : (f g : Format) (e : ℕ) → f .samplerate ≡ g .samplerate → f .bitrate ≡ g .bitrate → f .mode ≡ g .mode
+    → f .bound ≡ boundBy (f .mode) e → g .bound ≡ boundBy (g .mode) e → f ≡ g
+one-format f g e r b m h k =
+    let z : f .bound ≡ g .bound = h ∙ ap (λ (x : ℕ). boundBy x e) m ∙ sym k in
+    go (f .samplerate) (g .samplerate) (f .bitrate) (g .bitrate) (f .mode) (g .mode) (f .bound) (g .bound) r b m z
+  where
+    go : (r r′ b b′ m m′ h h′ : ℕ) → r ≡ r′ → b ≡ b′ → m ≡ m′ → h ≡ h′
+        → _≡_ {A = Format} (record { samplerate = r; bitrate = b; mode = m; bound = h }) (record { samplerate = r′; bitrate = b′; mode = m′; bound = h′ })
+    go r r′ b b′ m m′ h h′ p q s t = cc
+
+module _ {c d : Call} (agree : Agreeing c d) where
+  format : frameState c .format ≡ frameState d .format
+  format = one-format _ _ (agree .extension) (agree .samplerate) (agree .bitrate) (agree .mode) (agree .bound) (agree .bound′)
+
+  read-alike : Alike (codesIn (frameState c .format)) (c .stream) (frameState c .reader) (d .stream) (frameState d .reader)
+  read-alike =
+      let x = accepted-leaves c (agree .accepts) .goes .ready .short in
+      let y = accepted-leaves d (agree .accepts′) .goes .ready .short in
+      alike (codesIn (frameState c .format)) (c .stream) (d .stream) (frameState c .reader) (frameState d .reader)
+      (record { short = x; near = omega (arith, agree .present); enough = omega (arith, agree .present) })
+      (record { short = y; near = omega (arith, agree .present′); enough = omega (arith, agree .present′) }) (agree .equal)
+
+  -- the same samples are read
+  same-granules : granulesIn c ≡ granulesIn d
+  unfolding granulesAt
+  same-granules = read-alike .value ∙ ap (λ (f : Format). run (codesIn f) (d .stream) (frameState d .reader) .value) format
+
+  -- as many bits are called for
+  pub same-bits-called : bitsCalled c ≡ bitsCalled d
+  same-bits-called = read-alike .calls ∙ ap (λ (f : Format). called (codesIn f) (d .stream) (frameState d .reader)) format
+
+  -- "both use the same number of bits"
+  pub same-bits-used : agree .accepts .bits ≡ agree .accepts′ .bits
+  unfolding granulesAt
+  same-bits-used =
+      accepted-bits c (agree .accepts) ∙ same-used read-alike
+      ∙ ap (λ (f : Format). run (codesIn f) (d .stream) (frameState d .reader) .next .at .0 - firstBit d) format
+      ∙ sym (accepted-bits d (agree .accepts′))
+
+-- the two may change places, and a call that has its bits agrees with itself
+pub agree-both-ways : {c d : Call} → Agreeing c d → Agreeing d c
+unfolding Agree
+agree-both-ways {c} {d} agree =
+    let n = same-bits-called agree in
+    record {
+      accepts = agree .accepts′;
+      accepts′ = agree .accepts;
+      samplerate = sym (agree .samplerate);
+      bitrate = sym (agree .bitrate);
+      mode = sym (agree .mode);
+      extension = agree .extension;
+      bound = agree .bound′;
+      bound′ = agree .bound;
+      present = omega (arith, agree .present′);
+      present′ = omega (arith, agree .present);
+      equal = λ i l. sym (agree .equal i (omega arith));
+    }
+
+pub agrees-with-itself : {c : Call} → Accepts c → (extension : ℕ) → frameState c .format .bound ≡ boundBy (frameState c .format .mode) extension
+    → firstBit c + bitsCalled c ≤ 8 * length (c .stream) → Agreeing c c
+unfolding Agree
+agrees-with-itself ok e b h =
+    record {
+      accepts = ok;
+      accepts′ = ok;
+      samplerate = refl;
+      bitrate = refl;
+      mode = refl;
+      extension = e;
+      bound = b;
+      bound′ = b;
+      present = h;
+      present′ = h;
+      equal = λ i l. refl;
+    }
+
+-- ---- the samples
+
+-- as far as the synthesis goes two decoders are one: what lies past the rings may differ
+record Joined (a : Audio) (m : List Float) (b : Audio) (n : List Float) : Type 0 where
+  ring : a .ring ≡ b .ring
+  left : leftOf m ≡ leftOf n
+  right : rightOf m ≡ rightOf n
+
+-- 36 slots of the same samples from one ring position, on memories with the same rings
+module _ (f : ℕ → ℕ → List ℤ) (p : ℕ) (m n : List Float) (left : leftOf m ≡ leftOf n) (right : rightOf m ≡ rightOf n) where
+  joined-output : (o u : List Float) → 2304 ≤ length o → 2304 ≤ length u → (i : ℕ) → i < 2304
+      → getD (outputAfter f p m o 0 36) i nan ≡ getD (outputAfter f p n u 0 36) i nan
+  joined-output o u lo lu i l = rw (← zero-add i) (go (ℕ-discrete (i % 2) 0))
+    where
+      odd : ¬ (i % 2 ≡ 0) → i % 2 ≡ 1
+      odd x = omega arith
+
+      go : Dec (i % 2 ≡ 0) → getD (outputAfter f p m o 0 36) (0 + i) nan ≡ getD (outputAfter f p n u 0 36) (0 + i) nan
+      go (yes x) =
+          output-even f p m o 0 36 lo i l x ∙ ap (λ (r : List Float). outputsAt (f 0) p r (i / 64) (i % 64 / 2)) left
+          ∙ sym (output-even f p n u 0 36 lu i l x)
+      go (no x) =
+          output-odd f p m o 0 36 lo i l (odd x) ∙ ap (λ (r : List Float). outputsAt (f 1) p r (i / 64) (i % 64 / 2)) right
+          ∙ sym (output-odd f p n u 0 36 lu i l (odd x))
+
+-- what a call that accepts a frame leaves, by its ring position and granules
+module _ (x : Call) (ok : Accepts x) (p : ℕ) (at : x .state .ring ≡ p) (granules : List (List ℤ)) (is : granulesIn x ≡ granules) where
+  memory-is : newMemory x ≡ memoryAfter (slotsOf granules) p (x .memory) 36
+  memory-is = accepted-leaves x ok .memory ∙ ap₂ (λ q g. memoryAfter (slotsOf g) q (x .memory) 36) at is
+
+  output-is : newOutput x ≡ outputAfter (slotsOf granules) p (x .memory) (x .output) 0 36
+  output-is = accepted-leaves x ok .output ∙ ap₂ (λ q g. outputAfter (slotsOf g) q (x .memory) (x .output) 0 36) at is
+
+-- two calls that accept agreeing frames, at one ring position
+module _ {c d : Call} (agree : Agreeing c d) (ring : c .state .ring ≡ d .state .ring) (place : Place (c .state .ring)) where
+  abbrev f : ℕ → ℕ → List ℤ
+  f = slotsOf (granulesIn d)
+
+  abbrev lent : Leaves c
+  lent = accepted-leaves c (agree .accepts)
+
+  abbrev lent′ : Leaves d
+  lent′ = accepted-leaves d (agree .accepts′)
+
+  ring-after : outcome c .state .ring ≡ outcome d .state .ring
+  ring-after = lent .ring ∙ ap (λ (p : ℕ). positionAfter p 36) ring ∙ sym (lent′ .ring)
+
+  memories : (half : List Float → List Float)
+      → half (memoryAfter f (c .state .ring) (c .memory) 36) ≡ half (memoryAfter f (c .state .ring) (d .memory) 36) → half (newMemory c) ≡ half (newMemory d)
+  memories half e =
+      ap half (memory-is c (agree .accepts) (c .state .ring) refl (granulesIn d) (same-granules agree)) ∙ e
+      ∙ sym (ap half (memory-is d (agree .accepts′) (c .state .ring) (sym ring) (granulesIn d) refl))
+
+  outputs : (i : ℕ)
+      → getD (outputAfter f (c .state .ring) (c .memory) (c .output) 0 36) i nan ≡ getD (outputAfter f (c .state .ring) (d .memory) (d .output) 0 36) i nan
+      → getD (newOutput c) i nan ≡ getD (newOutput d) i nan
+  outputs i e =
+      ap (λ (o : List Float). getD o i nan) (output-is c (agree .accepts) (c .state .ring) refl (granulesIn d) (same-granules agree)) ∙ e
+      ∙ sym (ap (λ (o : List Float). getD o i nan) (output-is d (agree .accepts′) (c .state .ring) (sym ring) (granulesIn d) refl))
+
+  -- whatever the memories held, sixteen slots wash it out
+  joined-after : Joined (outcome c .state) (newMemory c) (outcome d .state) (newMemory d)
+  joined-after =
+      let m = lent .goes .memory-long in
+      let n = lent′ .goes .memory-long in
+      record {
+        ring = ring-after;
+        left = memories leftOf (left-washed f f place (c .memory) (d .memory) m n 36 (λ _ _ _ _. refl) (omega arith));
+        right = memories rightOf (right-washed f f place (c .memory) (d .memory) m n 36 (λ _ _ _ _. refl) (omega arith));
+      }
+
+  first-output : (i : ℕ) → 960 ≤ i → i < 2304 → getD (newOutput c) i nan ≡ getD (newOutput d) i nan
+  first-output i late l =
+      outputs i
+      (rw (← zero-add i)
+      (output-washed f f place (c .memory) (d .memory) (lent .goes .memory-long) (lent′ .goes .memory-long) 36 (λ _ _ _ _. refl) (c .output) (d .output) 0 0
+      (lent .goes .output-long) (lent′ .goes .output-long) i late l))
+
+  -- where the rings are equal already, every sample is
+  later-output : leftOf (c .memory) ≡ leftOf (d .memory) → rightOf (c .memory) ≡ rightOf (d .memory)
+      → (i : ℕ) → i < 2304 → getD (newOutput c) i nan ≡ getD (newOutput d) i nan
+  later-output left right i l =
+      outputs i
+      (joined-output f (c .state .ring) (c .memory) (d .memory) left right (c .output) (d .output)
+      (lent .goes .output-long) (lent′ .goes .output-long) i l)
+
+-- ---- the first agreeing frame, whatever came before
+
+module _ {c d : Call} (past : Past (c .state) (c .memory)) (past′ : Past (d .state) (d .memory)) (remainder : c .state .frames % 4 ≡ d .state .frames % 4)
+    (agree : Agreeing c d) where
+  same-ring : c .state .ring ≡ d .state .ring
+  same-ring = ring-by-frames past ∙ ap (λ (r : ℕ). (1024 - 256 * r) % 1024) remainder ∙ sym (ring-by-frames past′)
+
+  -- "samples 481 to 1,152 of each channel are equal"
+  pub rings-out : (channel k : ℕ) → channel < 2 → 481 ≤ k → k ≤ 1152 → sample (newOutput c) channel k ≡ sample (newOutput d) channel k
+  rings-out channel k two late last =
+      first-output agree same-ring (ring-in-place past) (2 * (k - 1) + channel) (omega arith) (omega arith)
+
+  -- "bit for bit"
+  pub rings-out-bit-for-bit : (channel k : ℕ) → channel < 2 → 481 ≤ k → k ≤ 1152
+      → BitForBit (sample (newOutput c) channel k) (sample (newOutput d) channel k)
+  rings-out-bit-for-bit channel k two late last =
+      equal-values-equal-bits 8259553 (samples-finite past (agree .accepts) channel k two (omega arith) last) (rings-out channel k two late last)
+
+  begun : Joined (outcome c .state) (newMemory c) (outcome d .state) (newMemory d)
+  begun = joined-after agree same-ring (ring-in-place past)
+
+-- ---- and after it
+
+-- a call that accepts no frame: has_header, samplerate, a decode call that gives a number; and a decode call lent another memory
+-- that is too short, which leaves the decoder's own
+pub data Passes (a : Audio) (m : List Float) : Audio → List Float → Type 0 where
+  asks : (s : List ℕ) → Passes a m (hasHeaderOf s a .state) m
+  rates : Passes a m a m
+  refuses : (s : List ℕ) (o : List Float) (number : ℕ) → decodeOf s m o a .answer ≡ AnswerRefused number
+      → Passes a m (decodeOf s m o a .state) (decodeMemory s m o a)
+  too-short : (s : List ℕ) (o short : List Float) → length short < 2048 → Passes a m (decodeOf s short o a .state) m
+
+-- two decoders that accepted agreeing frames, and since then, each on its own streams, any calls that accept no frame, and pair by
+-- pair further agreeing frames: "with no opening and no other writing between"
+pub data Together : Audio → List Float → Audio → List Float → Type 0 where
+  begin : (c d : Call) → Past (c .state) (c .memory) → Past (d .state) (d .memory) → c .state .frames % 4 ≡ d .state .frames % 4
+      → Agreeing c d → Together (outcome c .state) (newMemory c) (outcome d .state) (newMemory d)
+  one-passes : {a b a′ : Audio} {m n m′ : List Float} → Together a m b n → Passes a m a′ m′ → Together a′ m′ b n
+  other-passes : {a b b′ : Audio} {m n n′ : List Float} → Together a m b n → Passes b n b′ n′ → Together a m b′ n′
+  again : (c d : Call) → Together (c .state) (c .memory) (d .state) (d .memory)
+      → Agreeing c d → Together (outcome c .state) (newMemory c) (outcome d .state) (newMemory d)
+
+-- such a call is one of a past's, and leaves what the synthesis sees
+passed : {a b : Audio} {m n : List Float} → Past a m → Passes a m b n → Past b n
+passed p (asks s) = asked p s
+passed p rates = rated p
+passed p (refuses s o k e) = decoded p s o
+passed p (too-short s o short l) = refused p s o short l
+
+past-one : {a b : Audio} {m n : List Float} → Together a m b n → Past a m
+past-one (begin c d p q r e) = decoded p (c .stream) (c .output)
+past-one (one-passes t x) = passed (past-one t) x
+past-one (other-passes t x) = past-one t
+past-one (again c d t e) = decoded (past-one t) (c .stream) (c .output)
+
+passed-keeps : {a b : Audio} {m n : List Float} → Passes a m b n → (b .ring ≡ a .ring) × (n ≡ m)
+passed-keeps {a} {b} {m} {n} (asks s) = (has-header-keeps s a .ring, refl)
+passed-keeps rates = (refl, refl)
+passed-keeps {a} {b} {m} {n} (refuses s o k e) =
+    (refused-keeps (record { stream = s; memory = m; output = o; state = a }) k e .ring, refused-call-leaves-all s m o a k e .0)
+passed-keeps {a} {b} {m} {n} (too-short s o short l) = (short-keeps (record { stream = s; memory = short; output = o; state = a }) l .ring, refl)
+
+stay-joined : {a b : Audio} {m n : List Float} → Together a m b n → Joined a m b n
+stay-joined (begin c d p q r e) = begun p q r e
+stay-joined (one-passes t x) =
+    let j = stay-joined t in
+    let k = passed-keeps x in
+    record { ring = k .0 ∙ j .ring; left = ap leftOf (k .1) ∙ j .left; right = ap rightOf (k .1) ∙ j .right }
+stay-joined (other-passes t x) =
+    let j = stay-joined t in
+    let k = passed-keeps x in
+    record { ring = j .ring ∙ sym (k .0); left = j .left ∙ sym (ap leftOf (k .1)); right = j .right ∙ sym (ap rightOf (k .1)) }
+stay-joined (again c d t e) = joined-after e (stay-joined t .ring) (ring-in-place (past-one t))
+
+-- "every later sample is equal too"
+module _ {c d : Call} (together : Together (c .state) (c .memory) (d .state) (d .memory)) (agree : Agreeing c d) where
+  pub every-later-sample : (channel k : ℕ) → channel < 2 → 1 ≤ k → k ≤ 1152 → sample (newOutput c) channel k ≡ sample (newOutput d) channel k
+  every-later-sample channel k two first last =
+      let j = stay-joined together in
+      later-output agree (j .ring) (ring-in-place (past-one together)) (j .left) (j .right) (2 * (k - 1) + channel) (omega arith)
+
+  pub every-later-sample-bit-for-bit : (channel k : ℕ) → channel < 2 → 1 ≤ k → k ≤ 1152
+      → BitForBit (sample (newOutput c) channel k) (sample (newOutput d) channel k)
+  every-later-sample-bit-for-bit channel k two first last =
+      equal-values-equal-bits 8259553 (samples-finite (past-one together) (agree .accepts) channel k two first last)
+      (every-later-sample channel k two first last)
