@@ -6,6 +6,7 @@ pub mod Finite
 pub mod Extension
 pub mod RingOut
 pub mod Widths
+pub mod Standard
 pub mod Same
 pub mod Example
 pub mod Rows
