@@ -80,22 +80,26 @@ unfolding checkOf Always
 any-check true = λ _ _. tt
 any-check false = tt
 
--- a bound of at most 32, which is 0 in mono
-abbrev Bounded : ℕ → ℕ → Type 0
-Bounded mode bound = (bound ≤ 32) × (mode ≡ 3 → bound ≡ 0)
+-- the bound of some mode extension, a field of 2 bits
+abbrev pub Extended : ℕ → ℕ → Type 0
+Extended mode bound = (e : ℕ) × (e < 4) × (bound ≡ boundBy mode e)
 
-bound-small : (mode : ℕ) (check : Bool) → Always (Bounded mode) (boundOf mode check)
+bound-extended : (mode : ℕ) (check : Bool) → Always (Extended mode) (boundOf mode check)
 unfolding boundOf Always
-bound-small mode check =
-    λ e k. λ _ _. always-bind (λ _. Unit) (Bounded mode) (checkOf check) _ (any-check check)
-    (λ _ _. by-test (Bounded mode) (eqb mode 1) _ _ (λ t. (four e k, λ h. other mode _ (eqb-true mode 1 t) h))
-    (λ _. by-test (Bounded mode) (eqb mode 3) _ _ (λ _. (omega arith, λ _. refl)) (λ t. (omega arith, λ h. absurd (eqb-false mode 3 t h)))))
-  where
-    four : (e : ℕ) → e < 2 ^ 2 → 4 * (e + 1) ≤ 32
-    four e k = omega arith
+bound-extended mode check =
+    λ e k. λ _ _. always-bind (λ _. Unit) (Extended mode) (checkOf check) _ (any-check check) (λ _ _. (e, k, refl))
 
-    other : (m n : ℕ) → m ≡ 1 → m ≡ 3 → n ≡ 0
-    other m n p q = omega arith
+-- so it is at most 32, and 0 in mono
+bound-small : (mode e : ℕ) → e < 4 → (boundBy mode e ≤ 32) × (mode ≡ 3 → boundBy mode e ≡ 0)
+bound-small mode e k =
+    by-test B (eqb mode 1) _ _ (λ t. (omega arith, λ h. other (eqb-true mode 1 t) h))
+    (λ _. by-test B (eqb mode 3) _ _ (λ _. (omega arith, λ _. refl)) (λ t. (omega arith, λ h. absurd (eqb-false mode 3 t h))))
+  where
+    B : ℕ → Type 0
+    B bound = (bound ≤ 32) × (mode ≡ 3 → bound ≡ 0)
+
+    other : mode ≡ 1 → mode ≡ 3 → 4 * (e + 1) ≡ 0
+    other p q = omega arith
 
 -- 01's ranges of a format and a data size
 pub record Good (f : Format) (size : ℕ) : Type 0 where
@@ -104,6 +108,7 @@ pub record Good (f : Format) (size : ℕ) : Type 0 where
   pub mode : f .mode < 4
   pub bound : f .bound ≤ 32
   pub mono : f .mode ≡ 3 → f .bound ≡ 0
+  pub extension : Extended (f .mode) (f .bound)
   pub least : 90 ≤ size
   pub most : size ≤ 1725
 
@@ -116,10 +121,20 @@ unfolding restOf Always
 rest-good known check b f p l m n =
     always-bind (λ mode. mode < 4) GoodHeader modeOf _ mode-small
     (λ mode k. by-test (Always GoodHeader) (differs known b f mode) _ _ (λ _. tt)
-    (λ _. always-bind (Bounded mode) GoodHeader (boundOf mode check) _ (bound-small mode check)
+    (λ _. always-bind (Extended mode) GoodHeader (boundOf mode check) _ (bound-extended mode check)
     (λ bound h.
     let z = size-fits b f p check l m n in
-    record { samplerate = m; bitrate = l; mode = k; bound = h .0; mono = h .1; least = z .0; most = z .1 })))
+    let y = bound-small mode (h .0) (h .1) in
+    record {
+      samplerate = m;
+      bitrate = l;
+      mode = k;
+      bound = rw (h .2) (y .0);
+      mono = rw (h .2) (y .1);
+      extension = h;
+      least = z .0;
+      most = z .1;
+    })))
 
 rates-good : (known : Format) (check : Bool) (r : Rates) → Rated r → Always GoodHeader (byRates known check r)
 unfolding Always
