@@ -88,7 +88,7 @@ pub record Pended (a b : Audio) : Type 0 where
   pub frames : b .frames ≡ a .frames
   pub ring : b .ring ≡ a .ring
 
-seeking-good : (a : Audio) (r : Reader) (h : Header) → GoodHeader h → When (Pended a) (seeking a r h)
+seeking-good : (a : Audio) (r : Reader) (h : Header) → GoodHeader (a .format) h → When (Pended a) (seeking a r h)
 unfolding When
 seeking-good a r (Accepted f n) g =
     λ _. record {
