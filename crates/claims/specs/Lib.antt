@@ -1,2 +1,3 @@
 pub mod Pasts
 pub mod Untouched
+pub mod Sound
