@@ -1,3 +1,4 @@
 pub mod Pasts
 pub mod Untouched
+pub mod Least
 pub mod Sound
