@@ -2,3 +2,5 @@ pub mod Pasts
 pub mod Untouched
 pub mod Least
 pub mod Sound
+pub mod Tables
+pub mod Attempts
