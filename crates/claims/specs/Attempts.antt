@@ -294,3 +294,17 @@ module _ (s : List ℕ) (r : Reader) (short : length s ≤ 16777216) (near : r .
     pub attempt-table : Table (λ (x : Attempt). headerNumber (x .header)) (headerOf s r known) (Attempts s r known)
     unfolding Stands
     attempt-table = record { holds = attempt-stands; only = attempt-only }
+
+-- an attempt gives no other number
+pub attempt-number : {s : List ℕ} {r : Reader} {known : Format} {n : ℕ} {x : Attempt} → Attempts s r known n x → n ≤ 6
+attempt-number (one l) = omega arith
+attempt-number (two room o l) = omega arith
+attempt-number (three room y n) = omega arith
+attempt-number (four room y l b) = omega arith
+attempt-number (five room y u f) = omega arith
+attempt-number (six room y u f d) = omega arith
+attempt-number (zero room y u f d) = omega arith
+
+-- the first header is never refused with 6
+pub first-is-not-six : {s : List ℕ} {r : Reader} {known : Format} {x : Attempt} → known .samplerate ≡ 3 → Attempts s r known 6 x → ⊥
+first-is-not-six e (six room y u f d) = subst T (sym (rw (eq-eqb _ _ e) at d)) tt

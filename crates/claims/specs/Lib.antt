@@ -4,3 +4,4 @@ pub mod Least
 pub mod Sound
 pub mod Tables
 pub mod Attempts
+pub mod Numbers

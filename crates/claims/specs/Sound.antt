@@ -306,6 +306,10 @@ opening-is-in-range s m = in-range _ (open-leads s m .ranged)
 pub decode-stays-in-range : (s : List ℕ) (m o : List Float) (a : Audio) → inRange a ≡ true → inRange (decodeOf s m o a .state) ≡ true
 decode-stays-in-range s m o a r = in-range _ (decode-leads s m o a (ranged a r) .ranged)
 
+-- also before a frame is decoded, while its header is read
+pub heading-stays-in-range : (s : List ℕ) (a : Audio) → length s ≤ 16777216 → inRange a ≡ true → inRange (headedOf s a .state) ≡ true
+heading-stays-in-range s a short r = in-range _ (headed-kept s short a (ranged a r) .ranged)
+
 pub has-header-stays-in-range : (s : List ℕ) (a : Audio) → inRange a ≡ true → inRange (hasHeaderOf s a .state) ≡ true
 has-header-stays-in-range s a r = in-range _ (has-header-leads s a (ranged a r) .ranged)
 

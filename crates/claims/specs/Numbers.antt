@@ -1,0 +1,192 @@
+-- The four public calls by 01's table: each number given exactly when, what is left behind, and the order where several would hold:
+-- 8, 9, 10, then 1 to 6 as the header is read, then 7. Each table has its rows as constructors. Assumes nothing.
+use Prim.Native.Nat.{ℕ, _+_, _*_, _≤_, _<_}
+use mathlib.Core.Path.{_≡_, refl, sym, ap, subst, _∙_}
+use mathlib.Core.Bool.{Bool, true, false, cond}
+use mathlib.Core.List.{List}
+use mathlib.Core.Logic.{_⊎_, inl, inr}
+use native.Mathlib.Omega.{arith}
+use lib.Dec.{T, eqb, ltb}
+use lib.Ieee.{Float}
+use lib.ListN.{length}
+use borrow.Author.Tests.{lt-ltb, le-ltb, eq-eqb, ne-eqb, eqb-true, eqb-false, ltb-true, ltb-false}
+use Rattle.ground.specs.Tests.{by-test}
+use Rattle.buffer.specs.Calls.{left, hasOf}
+use Rattle.buffer.specs.declared.Reader.{Reader}
+use Rattle.tables.specs.Standard.{rateOf}
+use Rattle.header.specs.Header.{headerOf, headerNumber}
+use Rattle.header.specs.declared.Format.{Format}
+use Rattle.header.specs.declared.Header.{Header}
+use Rattle.header.specs.declared.Header.the-variants.{Accepted, Refused as HeaderRefused}
+use Rattle.header.specs.declared.Attempt.{Attempt}
+use Rattle.audio.specs.State.{fresh, inRange}
+use Rattle.audio.specs.Before.{asked, seeking, tried, attemptOf, headedOf, holding, enoughOf, goesOn, pended, readyOf}
+use Rattle.audio.specs.Calls.{answering, remembering, sounding, afterOf, framedOf, framedMemory, framedOutput, decodeOf, decodeMemory, decodeOutput, openOf, hasHeaderOf, samplerateOf}
+use Rattle.audio.specs.Numbers.{headingNumber, rateNumber, answerNumber}
+use Rattle.audio.specs.Facts.{Ranged, ranged}
+use Rattle.audio.specs.declared.Audio.{Audio}
+use Rattle.audio.specs.declared.Asked.{Asked}
+use Rattle.audio.specs.declared.Heading.{Heading}
+use Rattle.audio.specs.declared.Heading.the-variants.{Known, Refused}
+use Rattle.audio.specs.declared.Rate.{Rate}
+use Rattle.audio.specs.declared.Rate.the-variants.{Hertz, Refused as RateRefused}
+use Rattle.audio.specs.declared.Answer.the-variants.{Refused as AnswerRefused}
+use Rattle.audio.specs.declared.Decoded.{Decoded}
+use Rattle.claims.specs.Tables.{Table, exactly}
+use Rattle.claims.specs.Attempts.{Attempts, refusal, attempt-table, attempt-number}
+use Rattle.claims.specs.Pasts.{Past}
+use Rattle.claims.specs.Sound.{heading-stays-in-range, sound-state-in-range}
+
+-- ---- decode
+
+-- neither 8 nor 9
+pub record Lent (s : List ℕ) (memory output : List Float) : Type 0 where
+  pub short : length s ≤ 16777216
+  pub memory-long : 2048 ≤ length memory
+  pub output-long : 2304 ≤ length output
+
+-- nor 10
+pub record Called (s : List ℕ) (memory output : List Float) (a : Audio) : Type 0 where
+  pub lent : Lent s memory output
+  pub within : inRange a ≡ true
+
+-- the state at another place, and nothing else changed
+abbrev pub movedTo : Reader → Audio → Audio
+movedTo r a = record { reader = r; format = a .format; frames = a .frames; pending = a .pending; ring = a .ring; time = a .time }
+
+-- the state with a header pending: the one that waits, or the one that an attempt accepts
+pub data Heads (s : List ℕ) (a : Audio) : Audio → Type 0 where
+  waits : (a .pending ≡ 0 → ⊥) → Heads s a a
+  accepts : {f : Format} {size : ℕ} {r : Reader} → a .pending ≡ 0
+      → Attempts s (a .reader) (a .format) 0 (record { header = Accepted f size; next = r })
+      → Heads s a (record { reader = r; format = f; frames = a .frames; pending = size; ring = a .ring; time = a .time })
+
+abbrev pub refused : ℕ → Audio → Decoded
+refused n a = record { answer = AnswerRefused n; state = a }
+
+pub data Decodes (s : List ℕ) (memory output : List Float) (a : Audio) : ℕ → Decoded → Type 0 where
+  -- "stream above 16,777,216 bytes": "same state"
+  eight : 16777216 < length s → Decodes s memory output a 8 (refused 8 a)
+  -- "synthesis memory under 2,048 or output under 2,304": "same state"
+  nine : length s ≤ 16777216 → (length memory < 2048) ⊎ (length output < 2304) → Decodes s memory output a 9 (refused 9 a)
+  -- "state out of range": "same state"
+  ten : Lent s memory output → inRange a ≡ false → Decodes s memory output a 10 (refused 10 a)
+  -- 1 to 6: no header pending, and the attempt gives it: "position moved", "old format kept"; with 1 the position is the same
+  sought : {n : ℕ} {r : Reader} → Called s memory output a → a .pending ≡ 0 → Attempts s (a .reader) (a .format) n (refusal n r)
+      → Decodes s memory output a n (refused n (movedTo r a))
+  -- "header pending, fewer bits remain than 8 times its data size": "state as after that header, still pending"
+  seven : {b : Audio} → Called s memory output a → Heads s a b → left s (b .reader) < 8 * b .pending
+      → Decodes s memory output a 7 (refused 7 b)
+  -- "frame decoded"
+  zero : {b : Audio} → Called s memory output a → Heads s a b → 8 * b .pending ≤ left s (b .reader)
+      → Decodes s memory output a 0 (framedOf s b)
+
+-- a header's data, in a state in range
+module _ (s : List ℕ) (b : Audio) (short : length s ≤ 16777216) (r : inRange b ≡ true) where
+  near : b .reader .at .0 ≤ 134217736
+  near = ranged b r .near
+
+  short-of-data : left s (b .reader) < 8 * b .pending → enoughOf s b ≡ asked (Refused 7) b
+  unfolding enoughOf hasOf
+  short-of-data l = simp (le-ltb _ _ short, le-ltb _ _ near, lt-ltb _ _ l)
+
+  has-data : 8 * b .pending ≤ left s (b .reader) → enoughOf s b ≡ asked Known b
+  unfolding enoughOf hasOf
+  has-data l = simp (le-ltb _ _ short, le-ltb _ _ near, le-ltb _ _ l)
+
+module _ (s : List ℕ) (memory output : List Float) (a : Audio) where
+  called : Called s memory output a → readyOf s (length memory) (length output) a ≡ pended s (headedOf s a)
+  unfolding readyOf
+  called c =
+      simp (le-ltb _ _ (c .lent .short), le-ltb _ _ (c .lent .memory-long), le-ltb _ _ (c .lent .output-long), c .within)
+
+  module _ (short : length s ≤ 16777216) (r : inRange a ≡ true) where
+    attempted : {n : ℕ} {x : Attempt} → Attempts s (a .reader) (a .format) n x → attemptOf s a ≡ tried a x
+    unfolding attemptOf
+    attempted t = ap (tried a) (sym (attempt-table s (a .reader) short (ranged a r .near) (a .format) .only t .0))
+
+    headed : {b : Audio} → Heads s a b → headedOf s a ≡ asked Known b
+    unfolding headedOf
+    headed (waits n) = simp (ne-eqb _ _ n)
+    headed (accepts e t) = simp (eq-eqb _ _ e) (attempted t)
+
+    turned-down : {n : ℕ} {q : Reader} → a .pending ≡ 0 → Attempts s (a .reader) (a .format) n (refusal n q)
+        → headedOf s a ≡ asked (Refused n) (movedTo q a)
+    unfolding headedOf
+    turned-down e t = simp (eq-eqb _ _ e) (attempted t ∙ rw e)
+
+  decode-by : (x : Asked) → readyOf s (length memory) (length output) a ≡ x → answering s (x .answer) (x .state) ≡ decodeOf s memory output a
+  unfolding decodeOf
+  decode-by x e = ap (λ (y : Asked). answering s (y .answer) (y .state)) (sym e)
+
+  -- a header found leaves a state in range
+  heads-within : {b : Audio} → Called s memory output a → Heads s a b → inRange b ≡ true
+  heads-within c h =
+      subst (λ (x : Asked). inRange (x .state) ≡ true) (headed (c .lent .short) (c .within) h)
+      (heading-stays-in-range s a (c .lent .short) (c .within))
+
+  pend : {b : Audio} → Called s memory output a → Heads s a b → readyOf s (length memory) (length output) a ≡ enoughOf s b
+  pend c h = called c ∙ ap (pended s) (headed (c .lent .short) (c .within) h)
+
+  decode-only : {n : ℕ} {x : Decoded} → Decodes s memory output a n x → (x ≡ decodeOf s memory output a) × (answerNumber (x .answer) ≡ n)
+  unfolding readyOf framedOf afterOf
+  decode-only (eight l) = (decode-by (asked (Refused 8) a) (simp (lt-ltb _ _ l)), refl)
+  decode-only (nine l (inl m)) = (decode-by (asked (Refused 9) a) (simp (le-ltb _ _ l, lt-ltb _ _ m)), refl)
+  decode-only (nine l (inr o)) =
+      (decode-by (asked (Refused 9) a)
+      (simp (le-ltb _ _ l, lt-ltb _ _ o) (by-test (λ (x : Asked). x ≡ asked (Refused 9) a) (ltb (length memory) 2048) _ _ (λ _. refl) (λ _. refl))),
+      refl)
+  decode-only (ten l r) =
+      (decode-by (asked (Refused 10) a) (simp (le-ltb _ _ (l .short), le-ltb _ _ (l .memory-long), le-ltb _ _ (l .output-long), r)), refl)
+  decode-only (sought {n} {r} c e t) =
+      (decode-by (asked (Refused n) (movedTo r a)) (called c ∙ ap (pended s) (turned-down (c .lent .short) (c .within) e t)), refl)
+  decode-only (seven {b} c h l) = (decode-by (asked (Refused 7) b) (pend c h ∙ short-of-data s b (c .lent .short) (heads-within c h) l), refl)
+  decode-only (zero {b} c h l) = (decode-by (asked Known b) (pend c h ∙ has-data s b (c .lent .short) (heads-within c h) l), refl)
+
+  -- ---- the call's outcome stands in a row
+
+  Stands : Asked → Type 0
+  Stands x = Decodes s memory output a (answerNumber (answering s (x .answer) (x .state) .answer)) (answering s (x .answer) (x .state))
+
+  data-stand : {b : Audio} → Called s memory output a → Heads s a b → Stands (enoughOf s b)
+  unfolding Stands framedOf afterOf
+  data-stand {b} c h = go (ltb (left s (b .reader)) (8 * b .pending)) refl
+    where
+      go : (t : Bool) → ltb (left s (b .reader)) (8 * b .pending) ≡ t → Stands (enoughOf s b)
+      go true e =
+          let l = ltb-true _ _ e in rw (short-of-data s b (c .lent .short) (heads-within c h) l) (seven c h l)
+      go false e =
+          let l = ltb-false _ _ e in rw (has-data s b (c .lent .short) (heads-within c h) l) (zero c h l)
+
+  attempt-stands : Called s memory output a → a .pending ≡ 0 → Stands (pended s (attemptOf s a))
+  unfolding Stands attemptOf
+  attempt-stands c e =
+      go (t .header) (t .next) (attempt-table s (a .reader) (c .lent .short) (ranged a (c .within) .near) (a .format) .holds)
+    where
+      t : Attempt
+      t = headerOf s (a .reader) (a .format)
+
+      go : (h : Header) (r : Reader) → Attempts s (a .reader) (a .format) (headerNumber h) (record { header = h; next = r })
+          → Stands (pended s (seeking a r h))
+      go (Accepted f n) r row = data-stand c (accepts e row)
+      go (HeaderRefused n) r row =
+          subst
+          (λ (p : ℕ). Decodes s memory output a n
+          (refused n (record { reader = r; format = a .format; frames = a .frames; pending = p; ring = a .ring; time = a .time })))
+          e (sought c e row)
+
+  decode-stands : Stands (readyOf s (length memory) (length output) a)
+  unfolding Stands readyOf headedOf
+  decode-stands =
+      by-test Stands (ltb 16777216 (length s)) _ _ (λ l. eight (ltb-true _ _ l))
+      (λ l. by-test Stands (ltb (length memory) 2048) _ _ (λ m. nine (ltb-false _ _ l) (inl (ltb-true _ _ m)))
+      (λ m. by-test Stands (ltb (length output) 2304) _ _ (λ o. nine (ltb-false _ _ l) (inr (ltb-true _ _ o)))
+      (λ o. let lent : Lent s memory output = record { short = ltb-false _ _ l; memory-long = ltb-false _ _ m; output-long = ltb-false _ _ o } in
+      by-test Stands (inRange a) _ _
+      (λ r. let c : Called s memory output a = record { lent = lent; within = r } in
+      by-test (λ (x : Asked). Stands (pended s x)) (eqb (a .pending) 0) _ _ (λ e. attempt-stands c (eqb-true _ _ e)) (λ e. data-stand c (waits (eqb-false _ _ e))))
+      (λ r. ten lent r))))
+
+  pub decode-table : Table (λ (x : Decoded). answerNumber (x .answer)) (decodeOf s memory output a) (Decodes s memory output a)
+  unfolding Stands decodeOf
+  decode-table = record { holds = decode-stands; only = decode-only }
