@@ -35,7 +35,7 @@ use Rattle.audio.specs.declared.Decoded.{Decoded}
 use Rattle.claims.specs.Tables.{Table, exactly}
 use Rattle.claims.specs.Attempts.{Attempts, refusal, attempt-table, attempt-number}
 use Rattle.claims.specs.Pasts.{Past}
-use Rattle.claims.specs.Sound.{heading-stays-in-range, sound-state-in-range}
+use Rattle.claims.specs.Sound.{fresh-in-range, heading-stays-in-range, sound-state-in-range}
 
 -- ---- decode
 
@@ -94,26 +94,27 @@ module _ (s : List ℕ) (b : Audio) (short : length s ≤ 16777216) (r : inRange
   unfolding enoughOf hasOf
   has-data l = simp (le-ltb _ _ short, le-ltb _ _ near, le-ltb _ _ l)
 
+-- the header of a state in range
+module _ (s : List ℕ) (a : Audio) (short : length s ≤ 16777216) (within : inRange a ≡ true) where
+  attempted : {n : ℕ} {x : Attempt} → Attempts s (a .reader) (a .format) n x → attemptOf s a ≡ tried a x
+  unfolding attemptOf
+  attempted t = ap (tried a) (sym (attempt-table s (a .reader) short (ranged a within .near) (a .format) .only t .0))
+
+  headed : {b : Audio} → Heads s a b → headedOf s a ≡ asked Known b
+  unfolding headedOf
+  headed (waits n) = simp (ne-eqb _ _ n)
+  headed (accepts e t) = simp (eq-eqb _ _ e) (attempted t)
+
+  turned-down : {n : ℕ} {q : Reader} → a .pending ≡ 0 → Attempts s (a .reader) (a .format) n (refusal n q)
+      → headedOf s a ≡ asked (Refused n) (movedTo q a)
+  unfolding headedOf
+  turned-down e t = simp (eq-eqb _ _ e) (attempted t ∙ rw e)
+
 module _ (s : List ℕ) (memory output : List Float) (a : Audio) where
   called : Called s memory output a → readyOf s (length memory) (length output) a ≡ pended s (headedOf s a)
   unfolding readyOf
   called c =
       simp (le-ltb _ _ (c .lent .short), le-ltb _ _ (c .lent .memory-long), le-ltb _ _ (c .lent .output-long), c .within)
-
-  module _ (short : length s ≤ 16777216) (r : inRange a ≡ true) where
-    attempted : {n : ℕ} {x : Attempt} → Attempts s (a .reader) (a .format) n x → attemptOf s a ≡ tried a x
-    unfolding attemptOf
-    attempted t = ap (tried a) (sym (attempt-table s (a .reader) short (ranged a r .near) (a .format) .only t .0))
-
-    headed : {b : Audio} → Heads s a b → headedOf s a ≡ asked Known b
-    unfolding headedOf
-    headed (waits n) = simp (ne-eqb _ _ n)
-    headed (accepts e t) = simp (eq-eqb _ _ e) (attempted t)
-
-    turned-down : {n : ℕ} {q : Reader} → a .pending ≡ 0 → Attempts s (a .reader) (a .format) n (refusal n q)
-        → headedOf s a ≡ asked (Refused n) (movedTo q a)
-    unfolding headedOf
-    turned-down e t = simp (eq-eqb _ _ e) (attempted t ∙ rw e)
 
   decode-by : (x : Asked) → readyOf s (length memory) (length output) a ≡ x → answering s (x .answer) (x .state) ≡ decodeOf s memory output a
   unfolding decodeOf
@@ -122,11 +123,11 @@ module _ (s : List ℕ) (memory output : List Float) (a : Audio) where
   -- a header found leaves a state in range
   heads-within : {b : Audio} → Called s memory output a → Heads s a b → inRange b ≡ true
   heads-within c h =
-      subst (λ (x : Asked). inRange (x .state) ≡ true) (headed (c .lent .short) (c .within) h)
+      subst (λ (x : Asked). inRange (x .state) ≡ true) (headed s a (c .lent .short) (c .within) h)
       (heading-stays-in-range s a (c .lent .short) (c .within))
 
   pend : {b : Audio} → Called s memory output a → Heads s a b → readyOf s (length memory) (length output) a ≡ enoughOf s b
-  pend c h = called c ∙ ap (pended s) (headed (c .lent .short) (c .within) h)
+  pend c h = called c ∙ ap (pended s) (headed s a (c .lent .short) (c .within) h)
 
   decode-only : {n : ℕ} {x : Decoded} → Decodes s memory output a n x → (x ≡ decodeOf s memory output a) × (answerNumber (x .answer) ≡ n)
   unfolding readyOf framedOf afterOf
@@ -139,7 +140,7 @@ module _ (s : List ℕ) (memory output : List Float) (a : Audio) where
   decode-only (ten l r) =
       (decode-by (asked (Refused 10) a) (simp (le-ltb _ _ (l .short), le-ltb _ _ (l .memory-long), le-ltb _ _ (l .output-long), r)), refl)
   decode-only (sought {n} {r} c e t) =
-      (decode-by (asked (Refused n) (movedTo r a)) (called c ∙ ap (pended s) (turned-down (c .lent .short) (c .within) e t)), refl)
+      (decode-by (asked (Refused n) (movedTo r a)) (called c ∙ ap (pended s) (turned-down s a (c .lent .short) (c .within) e t)), refl)
   decode-only (seven {b} c h l) = (decode-by (asked (Refused 7) b) (pend c h ∙ short-of-data s b (c .lent .short) (heads-within c h) l), refl)
   decode-only (zero {b} c h l) = (decode-by (asked Known b) (pend c h ∙ has-data s b (c .lent .short) (heads-within c h) l), refl)
 
@@ -190,3 +191,145 @@ module _ (s : List ℕ) (memory output : List Float) (a : Audio) where
   pub decode-table : Table (λ (x : Decoded). answerNumber (x .answer)) (decodeOf s memory output a) (Decodes s memory output a)
   unfolding Stands decodeOf
   decode-table = record { holds = decode-stands; only = decode-only }
+
+  -- a decoded frame's memory and output are that frame's; every other row leaves them (Untouched)
+  pub decoded-frame-writes : {b : Audio} → Called s memory output a → Heads s a b → 8 * b .pending ≤ left s (b .reader)
+      → (decodeMemory s memory output a ≡ framedMemory s b memory) × (decodeOutput s memory output a ≡ framedOutput s b memory output)
+  unfolding decodeMemory decodeOutput
+  decoded-frame-writes {b} c h l =
+      let e = pend c h ∙ has-data s b (c .lent .short) (heads-within c h) l in
+      (ap (λ (x : Asked). remembering s memory (x .answer) (x .state)) e, ap (λ (x : Asked). sounding s memory output (x .answer) (x .state)) e)
+
+-- ---- an attempt's answer, for the calls that do no more
+
+module _ (s : List ℕ) (a : Audio) (short : length s ≤ 16777216) (within : inRange a ≡ true) where
+  tried-number : (h : Header) (r : Reader) → headingNumber (seeking a r h .answer) ≡ headerNumber h
+  tried-number (Accepted f n) r = refl
+  tried-number (HeaderRefused n) r = refl
+
+  tried-stands : (Row : ℕ → Asked → Type 0) → ((n : ℕ) (x : Attempt) → Attempts s (a .reader) (a .format) n x → Row n (tried a x))
+      → Row (headingNumber (attemptOf s a .answer)) (attemptOf s a)
+  unfolding attemptOf
+  tried-stands Row f =
+      let t = headerOf s (a .reader) (a .format) in
+      subst (λ n. Row n (tried a t)) (sym (tried-number (t .header) (t .next)))
+      (f _ t (attempt-table s (a .reader) short (ranged a within .near) (a .format) .holds))
+
+  tried-only : {n : ℕ} {x : Attempt} → Attempts s (a .reader) (a .format) n x
+      → (tried a x ≡ attemptOf s a) × (headingNumber (tried a x .answer) ≡ n)
+  tried-only {x = x} t =
+      let o = attempt-table s (a .reader) short (ranged a within .near) (a .format) .only t in
+      (sym (attempted s a short within t), tried-number (x .header) (x .next) ∙ o .1)
+
+-- ---- has_header: "8, 10, then 0 if a header is known, else 1 to 5 or 0"
+
+pub data Asks (s : List ℕ) (a : Audio) : ℕ → Asked → Type 0 where
+  eight : 16777216 < length s → Asks s a 8 (asked (Refused 8) a)
+  ten : length s ≤ 16777216 → inRange a ≡ false → Asks s a 10 (asked (Refused 10) a)
+  known : length s ≤ 16777216 → inRange a ≡ true → (a .format .samplerate ≡ 3 → ⊥) → Asks s a 0 (asked Known a)
+  sought : {n : ℕ} {x : Attempt} → length s ≤ 16777216 → inRange a ≡ true → a .format .samplerate ≡ 3
+      → Attempts s (a .reader) (a .format) n x → Asks s a n (tried a x)
+
+pub has-header-table : (s : List ℕ) (a : Audio) → Table (λ (x : Asked). headingNumber (x .answer)) (hasHeaderOf s a) (Asks s a)
+unfolding hasHeaderOf
+has-header-table s a = record { holds = stands; only = only }
+  where
+    Stands : Asked → Type 0
+    Stands x = Asks s a (headingNumber (x .answer)) x
+
+    stands : Stands (hasHeaderOf s a)
+    stands =
+        by-test Stands (ltb 16777216 (length s)) _ _ (λ l. eight (ltb-true _ _ l))
+        (λ l. by-test Stands (inRange a) _ _
+        (λ r. by-test Stands (eqb (a .format .samplerate) 3) _ _
+        (λ e. tried-stands s a (ltb-false _ _ l) r (Asks s a) (λ _ _ t. sought (ltb-false _ _ l) r (eqb-true _ _ e) t))
+        (λ e. known (ltb-false _ _ l) r (eqb-false _ _ e)))
+        (λ r. ten (ltb-false _ _ l) r))
+
+    only : {n : ℕ} {x : Asked} → Asks s a n x → (x ≡ hasHeaderOf s a) × (headingNumber (x .answer) ≡ n)
+    only (eight l) = (simp (lt-ltb _ _ l), refl)
+    only (ten l r) = (simp (le-ltb _ _ l, r), refl)
+    only (known l r e) = (simp (le-ltb _ _ l, r, ne-eqb _ _ e), refl)
+    only (sought l r e t) = let o = tried-only s a l r t in (simp (le-ltb _ _ l, r, eq-eqb _ _ e) (o .0), o .1)
+
+-- ---- new: "it can give 0 to 5, 8 or 9 (memory only)"
+
+pub data Opens (s : List ℕ) (memory : List Float) : ℕ → Asked → Type 0 where
+  eight : 16777216 < length s → Opens s memory 8 (asked (Refused 8) fresh)
+  nine : length s ≤ 16777216 → length memory < 2048 → Opens s memory 9 (asked (Refused 9) fresh)
+  sought : {n : ℕ} {x : Attempt} → length s ≤ 16777216 → 2048 ≤ length memory → Attempts s (fresh .reader) (fresh .format) n x
+      → Opens s memory n (tried fresh x)
+
+pub open-table : (s : List ℕ) (memory : List Float) → Table (λ (x : Asked). headingNumber (x .answer)) (openOf s memory) (Opens s memory)
+unfolding openOf
+open-table s memory = record { holds = stands; only = only }
+  where
+    Stands : Asked → Type 0
+    Stands x = Opens s memory (headingNumber (x .answer)) x
+
+    stands : Stands (openOf s memory)
+    stands =
+        by-test Stands (ltb 16777216 (length s)) _ _ (λ l. eight (ltb-true _ _ l))
+        (λ l. by-test Stands (ltb (length memory) 2048) _ _ (λ m. nine (ltb-false _ _ l) (ltb-true _ _ m))
+        (λ m. tried-stands s fresh (ltb-false _ _ l) fresh-in-range (Opens s memory) (λ _ _ t. sought (ltb-false _ _ l) (ltb-false _ _ m) t)))
+
+    only : {n : ℕ} {x : Asked} → Opens s memory n x → (x ≡ openOf s memory) × (headingNumber (x .answer) ≡ n)
+    only (eight l) = (simp (lt-ltb _ _ l), refl)
+    only (nine l m) = (simp (le-ltb _ _ l, lt-ltb _ _ m), refl)
+    only (sought l m t) = let o = tried-only s fresh l fresh-in-range t in (simp (le-ltb _ _ l, le-ltb _ _ m) (o .0), o .1)
+
+-- ---- samplerate: "10, or the rate, which is 0 without a header"
+
+pub data Rated (a : Audio) : ℕ → Rate → Type 0 where
+  ten : inRange a ≡ false → Rated a 10 (RateRefused 10)
+  zero : inRange a ≡ true → Rated a 0 (Hertz (rateOf (a .format .samplerate)))
+
+pub samplerate-table : (a : Audio) → Table rateNumber (samplerateOf a) (Rated a)
+unfolding samplerateOf
+samplerate-table a = record { holds = stands; only = only }
+  where
+    Stands : Rate → Type 0
+    Stands x = Rated a (rateNumber x) x
+
+    stands : Stands (samplerateOf a)
+    stands = by-test Stands (inRange a) _ _ (λ r. zero r) (λ r. ten r)
+
+    only : {n : ℕ} {x : Rate} → Rated a n x → (x ≡ samplerateOf a) × (rateNumber x ≡ n)
+    only (ten r) = (simp r, refl)
+    only (zero r) = (simp r, refl)
+
+pub no-header-no-rate : rateOf 3 ≡ 0
+no-header-no-rate = refl
+
+-- ---- 10 is never given by a decoder with a past, nor by an opening
+
+never : {t : Bool} → t ≡ true → t ≡ false → ⊥
+never e f = subst T (sym e ∙ f) tt
+
+decode-ten : {s : List ℕ} {memory output : List Float} {a : Audio} {x : Decoded} → Decodes s memory output a 10 x → inRange a ≡ false
+decode-ten (ten l r) = r
+decode-ten (sought c e t) = absurd (let n = attempt-number t in omega arith)
+
+has-header-ten : {s : List ℕ} {a : Audio} {x : Asked} → Asks s a 10 x → inRange a ≡ false
+has-header-ten (ten l r) = r
+has-header-ten (sought l r e t) = absurd (let n = attempt-number t in omega arith)
+
+opening-ten : {s : List ℕ} {m : List Float} {x : Asked} → Opens s m 10 x → ⊥
+opening-ten (sought l k t) = let n = attempt-number t in omega arith
+
+samplerate-ten : {a : Audio} {x : Rate} → Rated a 10 x → inRange a ≡ false
+samplerate-ten (ten r) = r
+
+module _ {a : Audio} {m : List Float} (past : Past a m) where
+  pub ten-is-never-given : (s : List ℕ) (memory output : List Float) → answerNumber (decodeOf s memory output a .answer) ≡ 10 → ⊥
+  ten-is-never-given s memory output e =
+      never (sound-state-in-range past) (decode-ten (exactly (decode-table s memory output a) 10 _ .0 (refl, e)))
+
+  pub has-header-never-gives-ten : (s : List ℕ) → headingNumber (hasHeaderOf s a .answer) ≡ 10 → ⊥
+  has-header-never-gives-ten s e = never (sound-state-in-range past) (has-header-ten (exactly (has-header-table s a) 10 _ .0 (refl, e)))
+
+  pub samplerate-never-gives-ten : rateNumber (samplerateOf a) ≡ 10 → ⊥
+  samplerate-never-gives-ten e = never (sound-state-in-range past) (samplerate-ten (exactly (samplerate-table a) 10 _ .0 (refl, e)))
+
+pub opening-never-gives-ten : (s : List ℕ) (m : List Float) → headingNumber (openOf s m .answer) ≡ 10 → ⊥
+opening-never-gives-ten s m e = opening-ten (exactly (open-table s m) 10 _ .0 (refl, e))

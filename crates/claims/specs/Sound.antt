@@ -299,6 +299,9 @@ open-leads s m =
     same : Leads fresh fresh
     same = record { ranged = fresh-ranged; sound = λ h. h }
 
+pub fresh-in-range : inRange fresh ≡ true
+fresh-in-range = in-range fresh fresh-ranged
+
 -- every state that an opening gives is in range, one with 8 or 9 too, and every call keeps a state in range so
 pub opening-is-in-range : (s : List ℕ) (m : List Float) → inRange (openOf s m .state) ≡ true
 opening-is-in-range s m = in-range _ (open-leads s m .ranged)
