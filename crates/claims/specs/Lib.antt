@@ -5,3 +5,4 @@ pub mod Sound
 pub mod Tables
 pub mod Attempts
 pub mod Numbers
+pub mod Settled

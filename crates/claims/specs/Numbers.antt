@@ -23,7 +23,7 @@ use Rattle.audio.specs.State.{fresh, inRange}
 use Rattle.audio.specs.Before.{asked, seeking, tried, attemptOf, headedOf, holding, enoughOf, goesOn, pended, readyOf}
 use Rattle.audio.specs.Calls.{answering, remembering, sounding, afterOf, framedOf, framedMemory, framedOutput, decodeOf, decodeMemory, decodeOutput, openOf, hasHeaderOf, samplerateOf}
 use Rattle.audio.specs.Numbers.{headingNumber, rateNumber, answerNumber}
-use Rattle.audio.specs.Facts.{Ranged, ranged}
+use Rattle.audio.specs.Facts.{Ranged, ranged, Ready, goes}
 use Rattle.audio.specs.declared.Audio.{Audio}
 use Rattle.audio.specs.declared.Asked.{Asked}
 use Rattle.audio.specs.declared.Heading.{Heading}
@@ -121,7 +121,7 @@ module _ (s : List ℕ) (memory output : List Float) (a : Audio) where
   decode-by x e = ap (λ (y : Asked). answering s (y .answer) (y .state)) (sym e)
 
   -- a header found leaves a state in range
-  heads-within : {b : Audio} → Called s memory output a → Heads s a b → inRange b ≡ true
+  pub heads-within : {b : Audio} → Called s memory output a → Heads s a b → inRange b ≡ true
   heads-within c h =
       subst (λ (x : Asked). inRange (x .state) ≡ true) (headed s a (c .lent .short) (c .within) h)
       (heading-stays-in-range s a (c .lent .short) (c .within))
@@ -191,6 +191,12 @@ module _ (s : List ℕ) (memory output : List Float) (a : Audio) where
   pub decode-table : Table (λ (x : Decoded). answerNumber (x .answer)) (decodeOf s memory output a) (Decodes s memory output a)
   unfolding Stands decodeOf
   decode-table = record { holds = decode-stands; only = decode-only }
+
+  -- what a frame that is decoded had
+  pub decoded-frame-ready : {b : Audio} → Called s memory output a → Heads s a b → 8 * b .pending ≤ left s (b .reader) → Ready s b
+  decoded-frame-ready {b} c h l =
+      goes s (length memory) (length output) a (asked Known b)
+      (sym (pend c h ∙ has-data s b (c .lent .short) (heads-within c h) l)) refl .ready
 
   -- a decoded frame's memory and output are that frame's; every other row leaves them (Untouched)
   pub decoded-frame-writes : {b : Audio} → Called s memory output a → Heads s a b → 8 * b .pending ≤ left s (b .reader)

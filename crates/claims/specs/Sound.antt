@@ -189,14 +189,22 @@ on-time frames samplerate =
     let x = startOf frames samplerate in sym (like-bits x x (start-real frames samplerate)) ∙ eq-eqb (toBits binary64 x) (toBits binary64 x) refl
 
 module _ (s : List ℕ) (a : Audio) (y : Ready s a) (w : Ranged a) (some : a .pending ≡ 0 → ⊥) where
-  framed-ranged : Ranged (framedOf s a .state)
-  unfolding framedOf afterOf cutFormat
-  framed-ranged =
+  -- it moves on by 16 bits at least, within the stream
+  pub frame-moves : (a .reader .at .0 + 16 ≤ framedOf s a .state .reader .at .0) × (framedOf s a .state .reader .at .0 ≤ 8 * length s)
+  unfolding framedOf afterOf
+  frame-moves =
       let end = granulesAt s (a .reader) (a .format) .next in
       let z = ended s a end y refl in
       let l = w .large some in
       let u = frame-uses-16-bits s (a .reader) (a .format) (record { short = y .short; near = w .near; enough = omega arith }) in
       let e = aligned-at s end (y .short) (omega arith) in
+      (omega arith, omega arith)
+
+  framed-ranged : Ranged (framedOf s a .state)
+  unfolding framedOf afterOf cutFormat
+  framed-ranged =
+      let m = frame-moves in
+      let l = y .short in
       record {
         near = omega arith;
         few = omega arith;
