@@ -6,3 +6,4 @@ pub mod Tables
 pub mod Attempts
 pub mod Numbers
 pub mod Settled
+pub mod Occur
