@@ -5,6 +5,7 @@ use Prim.Native.Nat.{ℕ, zero, suc, _+_, _-_, _*_, _/_, _%_, _≤_, _<_}
 use mathlib.Core.Path.{_≡_, refl, sym, ap, _∙_}
 use mathlib.Core.Bool.{Bool, true, false}
 use mathlib.Core.List.{List}
+use native.Mathlib.Nat.{add-zero}
 use native.Mathlib.Omega.{arith}
 use native.Mathlib.Decide.{ℕ-discrete}
 use lib.Dec.{eqb, ltb}
@@ -32,6 +33,8 @@ use Rattle.audio.specs.Before.{asked, seeking, tried, attemptOf, headedOf, hold
 use Rattle.audio.specs.Calls.{alignedOf, answering, remembering, afterOf, framedOf, framedMemory, decodeOf, decodeMemory, openOf, openMemory, hasHeaderOf}
 use Rattle.audio.specs.Facts.{Ranged, ranged, in-range, Ready, goes, ended}
 use Rattle.audio.specs.declared.Audio.{Audio}
+use Rattle.audio.specs.declared.Answer.{Answer}
+use Rattle.audio.specs.declared.Answer.the-variants.{Frame, Refused as AnswerRefused}
 use Rattle.audio.specs.declared.Asked.{Asked}
 use Rattle.audio.specs.declared.Heading.{Heading}
 use Rattle.audio.specs.declared.Heading.the-variants.{Known, Refused}
@@ -51,10 +54,11 @@ pub record Sound (a : Audio) : Type 0 where
 record Kept (a : Audio) (x : Asked) : Type 0 where
   ranged : Ranged (x .state)
   sound : Sound a → Sound (x .state)
+  frames : x .state .frames ≡ a .frames
   some : x .answer ≡ Known → x .state .pending ≡ 0 → ⊥
 
-refusal : {a : Audio} (n : ℕ) (b : Audio) → Ranged b → (Sound a → Sound b) → Kept a (asked (Refused n) b)
-refusal n b r w = record { ranged = r; sound = w; some = λ e. absurd (let z : _≡_ {A = ℕ} 0 1 = cc in omega arith) }
+refusal : {a : Audio} (n : ℕ) (b : Audio) → Ranged b → (Sound a → Sound b) → b .frames ≡ a .frames → Kept a (asked (Refused n) b)
+refusal n b r w f = record { ranged = r; sound = w; frames = f; some = λ e. absurd (let z : _≡_ {A = ℕ} 0 1 = cc in omega arith) }
 
 -- ---- a header attempt
 
@@ -86,7 +90,7 @@ module _ (a : Audio) (r : Reader) (w : Ranged a) (near : r .at .0 ≤ 134217736)
         first = w .first;
         time = w .time;
       })
-      (λ h. record { extension = λ some. absurd (some refl); ring = h .ring; time = h .time })
+      (λ h. record { extension = λ some. absurd (some refl); ring = h .ring; time = h .time }) refl
 
   -- accepted: the sample rate is the old one, or there was none
   module _ (f : Format) (n : ℕ) (g : Good (a .format) f n) where
@@ -118,6 +122,7 @@ module _ (a : Audio) (r : Reader) (w : Ranged a) (near : r .at .0 ≤ 134217736)
                 time = ap (sameBits (a .time)) (sym same-start) ∙ w .time;
               };
           sound = λ h. record { extension = λ _. g .extension; ring = h .ring; time = h .time ∙ same-start };
+          frames = refl;
           some = λ _ e. omega arith;
         }
 
@@ -149,7 +154,7 @@ module _ (s : List ℕ) (short : length s ≤ 16777216) where
   unfolding headedOf
   headed-kept a w =
       by-test (Kept a) (eqb (a .pending) 0) _ _ (λ _. attempt-kept a w)
-      (λ e. record { ranged = w; sound = λ h. h; some = λ _. eqb-false _ _ e })
+      (λ e. record { ranged = w; sound = λ h. h; frames = refl; some = λ _. eqb-false _ _ e })
 
   -- whether its data are there changes no state
   pended-kept : (a : Audio) (x : Asked) → Kept a x → Kept a (pended s x)
@@ -157,13 +162,13 @@ module _ (s : List ℕ) (short : length s ≤ 16777216) where
   pended-kept a x k = go (x .answer) (k .some)
     where
       holds : (x .state .pending ≡ 0 → ⊥) → (h : Holds) → Kept a (holding (x .state) h)
-      holds n Yes = record { ranged = k .ranged; sound = k .sound; some = λ _. n }
-      holds n No = refusal 7 (x .state) (k .ranged) (k .sound)
-      holds n (HoldsRefused i) = refusal i (x .state) (k .ranged) (k .sound)
+      holds n Yes = record { ranged = k .ranged; sound = k .sound; frames = k .frames; some = λ _. n }
+      holds n No = refusal 7 (x .state) (k .ranged) (k .sound) (k .frames)
+      holds n (HoldsRefused i) = refusal i (x .state) (k .ranged) (k .sound) (k .frames)
 
       go : (y : Heading) → (y ≡ Known → x .state .pending ≡ 0 → ⊥) → Kept a (goesOn s y (x .state))
       go Known n = holds (n refl) (hasOf s (x .state .reader) (8 * x .state .pending))
-      go (Refused i) n = refusal i (x .state) (k .ranged) (k .sound)
+      go (Refused i) n = refusal i (x .state) (k .ranged) (k .sound) (k .frames)
 
 ready-kept : (s : List ℕ) (m o : ℕ) (a : Audio) → Ranged a → Kept a (readyOf s m o a)
 unfolding readyOf
@@ -175,7 +180,7 @@ ready-kept s m o a w =
     (λ _. pended-kept s (ltb-false _ _ l) a (headedOf s a) (headed-kept s (ltb-false _ _ l) a w)) (λ _. same 10))))
   where
     same : (n : ℕ) → Kept a (asked (Refused n) a)
-    same n = refusal n a w (λ h. h)
+    same n = refusal n a w (λ h. h) refl
 
 -- ---- a frame
 
@@ -236,13 +241,22 @@ module _ (s : List ℕ) (a : Audio) (y : Ready s a) (w : Ranged a) (some : a .pe
 
 -- ---- the calls
 
+-- an answer's frames: one, or none
+abbrev pub framesIn : Answer → ℕ
+framesIn (Frame time bits) = 1
+framesIn (AnswerRefused n) = 0
+
 -- a state in range leads to such a state, and a decoder's own state to such a one
-record Leads (a b : Audio) : Type 0 where
+record Leads (a b : Audio) (more : ℕ) : Type 0 where
   ranged : Ranged b
   sound : Sound a → Sound b
+  frames : b .frames ≡ a .frames + more
 
-decode-leads : (s : List ℕ) (m o : List Float) (a : Audio) → Ranged a → Leads a (decodeOf s m o a .state)
-unfolding decodeOf
+no-more : {a : Audio} {x : Asked} → Kept a x → Leads a (x .state) 0
+no-more k = record { ranged = k .ranged; sound = k .sound; frames = k .frames ∙ sym (add-zero _) }
+
+decode-leads : (s : List ℕ) (m o : List Float) (a : Audio) → Ranged a → Leads a (decodeOf s m o a .state) (framesIn (decodeOf s m o a .answer))
+unfolding decodeOf framedOf afterOf
 decode-leads s m o a w = go (r .answer) refl
   where
     r : Asked
@@ -251,29 +265,30 @@ decode-leads s m o a w = go (r .answer) refl
     k : Kept a r
     k = ready-kept s (length m) (length o) a w
 
-    go : (y : Heading) → r .answer ≡ y → Leads a (answering s y (r .state) .state)
+    go : (y : Heading) → r .answer ≡ y → Leads a (answering s y (r .state) .state) (framesIn (answering s y (r .state) .answer))
     go Known e =
         let y = goes s (length m) (length o) a r refl e .ready in
         record {
           ranged = framed-ranged s (r .state) y (k .ranged) (k .some e);
           sound = λ h. framed-sound s (r .state) y (k .ranged) (k .some e) (k .sound h);
+          frames = ap (λ n. n + 1) (k .frames);
         }
-    go (Refused n) e = record { ranged = k .ranged; sound = k .sound }
+    go (Refused n) e = no-more k
 
-has-header-leads : (s : List ℕ) (a : Audio) → Ranged a → Leads a (hasHeaderOf s a .state)
+has-header-leads : (s : List ℕ) (a : Audio) → Ranged a → Leads a (hasHeaderOf s a .state) 0
 unfolding hasHeaderOf
 has-header-leads s a w =
     by-test P (ltb 16777216 (length s)) _ _ (λ _. same)
     (λ l. by-test P (inRange a) _ _
     (λ _. by-test P (eqb (a .format .samplerate) 3) _ _
-    (λ _. let k = attempt-kept s (ltb-false _ _ l) a w in record { ranged = k .ranged; sound = k .sound }) (λ _. same))
+    (λ _. no-more (attempt-kept s (ltb-false _ _ l) a w)) (λ _. same))
     (λ _. same))
   where
     P : Asked → Type 0
-    P x = Leads a (x .state)
+    P x = Leads a (x .state) 0
 
-    same : Leads a a
-    same = record { ranged = w; sound = λ h. h }
+    same : Leads a a 0
+    same = record { ranged = w; sound = λ h. h; frames = sym (add-zero _) }
 
 fresh-ranged : Ranged fresh
 unfolding fresh startOf
@@ -294,18 +309,18 @@ fresh-ranged =
       time = on-time 0 3;
     }
 
-open-leads : (s : List ℕ) (m : List Float) → Leads fresh (openOf s m .state)
+open-leads : (s : List ℕ) (m : List Float) → Leads fresh (openOf s m .state) 0
 unfolding openOf
 open-leads s m =
     by-test P (ltb 16777216 (length s)) _ _ (λ _. same)
     (λ l. by-test P (ltb (length m) 2048) _ _ (λ _. same)
-    (λ _. let k = attempt-kept s (ltb-false _ _ l) fresh fresh-ranged in record { ranged = k .ranged; sound = k .sound }))
+    (λ _. no-more (attempt-kept s (ltb-false _ _ l) fresh fresh-ranged)))
   where
     P : Asked → Type 0
-    P x = Leads fresh (x .state)
+    P x = Leads fresh (x .state) 0
 
-    same : Leads fresh fresh
-    same = record { ranged = fresh-ranged; sound = λ h. h }
+    same : Leads fresh fresh 0
+    same = record { ranged = fresh-ranged; sound = λ h. h; frames = sym (add-zero _) }
 
 pub fresh-in-range : inRange fresh ≡ true
 fresh-in-range = in-range fresh fresh-ranged
@@ -343,6 +358,31 @@ sound (has-asked {a} p s) = has-header-leads s a (ranged a (sound-state-in-range
 sound (rated p) = sound p
 sound (decoded {a} {m} p s o) = decode-leads s m o a (ranged a (sound-state-in-range p)) .sound (sound p)
 sound (refused {a} p s o short l) = decode-leads s short o a (ranged a (sound-state-in-range p)) .sound (sound p)
+
+-- the count of accepted frames, and that the state keeps it
+unfoldable pub framesOf : {a : Audio} {m : List Float} → Past a m → ℕ
+framesOf (opened s m l k) = 0
+framesOf (has-asked p s) = framesOf p
+framesOf (rated p) = framesOf p
+framesOf (decoded {a} {m} p s o) = framesOf p + framesIn (decodeOf s m o a .answer)
+framesOf (refused p s o short l) = framesOf p
+
+-- a memory too short: nothing happens
+short-leaves : (s : List ℕ) (short o : List Float) (a : Audio) → length short < 2048 → decodeOf s short o a .state ≡ a
+unfolding decodeOf readyOf
+short-leaves s short o a l =
+    simp (lt-ltb _ _ l)
+    (by-test (λ (x : Asked). answering s (x .answer) (x .state) .state ≡ a) (ltb 16777216 (length s)) _ _ (λ _. refl) (λ _. refl))
+
+pub frames-are-counted : {a : Audio} {m : List Float} (p : Past a m) → a .frames ≡ framesOf p
+unfolding framesOf fresh
+frames-are-counted (opened s m l k) = open-leads s m .frames
+frames-are-counted (has-asked {a} p s) = has-header-leads s a (ranged a (sound-state-in-range p)) .frames ∙ add-zero _ ∙ frames-are-counted p
+frames-are-counted (rated p) = frames-are-counted p
+frames-are-counted (decoded {a} {m} p s o) =
+    decode-leads s m o a (ranged a (sound-state-in-range p)) .frames
+    ∙ ap (λ n. n + framesIn (decodeOf s m o a .answer)) (frames-are-counted p)
+frames-are-counted (refused {a} p s o short l) = ap (λ (b : Audio). b .frames) (short-leaves s short o a l) ∙ frames-are-counted p
 
 module _ {a : Audio} {m : List Float} (past : Past a m) where
   pub ring-by-frames : a .ring ≡ (1024 - 256 * (a .frames % 4)) % 1024
