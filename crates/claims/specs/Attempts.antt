@@ -5,6 +5,7 @@ use mathlib.Core.Path.{_≡_, refl, sym, ap, subst, _∙_}
 use mathlib.Core.Bool.{Bool, true, false, cond, _&&_, _||_}
 use mathlib.Core.List.{List}
 use mathlib.Core.Logic.{_⊎_, inl, inr}
+use native.Mathlib.Decide.{ℕ-discrete}
 use native.Mathlib.Omega.{arith}
 use lib.Dec.{T, eqb, ltb}
 use lib.ListN.{length}
@@ -29,6 +30,7 @@ use Rattle.header.specs.declared.Attempt.{Attempt}
 use Rattle.header.specs.declared.Start.{Start}
 use Rattle.header.specs.declared.Start.the-variants.{At, Refused as StartRefused}
 use Rattle.claims.specs.Tables.{Table}
+use Rattle.claims.specs.Pairs.{no-pair-found}
 use Rattle.claims.specs.Sound.{stays}
 
 -- ---- the sync
@@ -39,8 +41,15 @@ module _ (s : List ℕ) (r : Reader) where
   eleven = fieldOf s (readerAt (pastOf s 0 ((r .at .0 + 7) / 8) * 8)) 11
 
   -- "if they are not all ones, the search starts at the byte holding the reading position"
+  abbrev pub from : ℕ
+  from = eleven .next .at .0 / 8
+
   abbrev pub stop : ℕ
-  stop = stopOf s (eleven .next .at .0 / 8)
+  stop = stopOf s from
+
+  -- no "FF then FC or FD" from there on
+  abbrev pub NoPair : Type 0
+  NoPair = (j : ℕ) → from ≤ j → j + 1 < length s → pairAt s j ≡ false
 
 -- found at once, or by the search: the place after it
 pub data Synced (s : List ℕ) (r : Reader) : Reader → Type 0 where
@@ -114,7 +123,7 @@ pub data Attempts (s : List ℕ) (r : Reader) (known : Format) : ℕ → Attempt
   -- "fewer than 48 bits remain"
   one : left s r < 48 → Attempts s r known 1 (refusal 1 r)
   -- "header sought, no sync found"
-  two : 48 ≤ left s r → (eleven s r .value ≡ 2047 → ⊥) → length s - 1 ≤ stop s r → Attempts s r known 2 (refusal 2 (readerAt ((stop s r + 1) * 8)))
+  two : 48 ≤ left s r → (eleven s r .value ≡ 2047 → ⊥) → NoPair s r → Attempts s r known 2 (refusal 2 (readerAt ((stop s r + 1) * 8)))
   -- "version not 3, or layer not 2"
   three : {q : Reader} → 48 ≤ left s r → Synced s r q → (LayerII s q → ⊥) → Attempts s r known 3 (refusal 3 (protection s q .next))
   -- "bit-rate field 0 or 15"
@@ -244,7 +253,7 @@ module _ (s : List ℕ) (r : Reader) (short : length s ≤ 16777216) (near : r .
             rw (start-course room, seek-course room)
             (by-test S (eqb (eleven s r .value) 2047) _ _ (λ o. fields-stand room (at-once (eqb-true _ _ o)))
             (λ o. by-test S (ltb (stop s r) (length s - 1)) _ _ (λ l. fields-stand room (searched (eqb-false _ _ o) (ltb-true _ _ l)))
-            (λ l. two room (eqb-false _ _ o) (ltb-false _ _ l))))
+            (λ l. two room (eqb-false _ _ o) (no-pair-found s (from s r) .0 (ltb-false _ _ l)))))
 
     -- where the sync is found, the attempt is what the fields say
     after-sync : {q : Reader} → 48 ≤ left s r → Synced s r q → headerOf s r known ≡ attempt (run (fieldsOf known) s q)
@@ -284,7 +293,7 @@ module _ (s : List ℕ) (r : Reader) (short : length s ≤ 16777216) (near : r .
 
     attempt-only : {n : ℕ} {x : Attempt} → Attempts s r known n x → (x ≡ headerOf s r known) × (headerNumber (x .header) ≡ n)
     attempt-only (one l) = (rw (stays s r known short near l), refl)
-    attempt-only (two room o l) = (rw (unsynced room o l), refl)
+    attempt-only (two room o f) = (rw (unsynced room o (no-pair-found s (from s r) .1 f)), refl)
     attempt-only (three {q} room y n) = (rw (after-sync room y, fields-course s q known, not-layer n), refl)
     attempt-only (four {q} room y l b) = (rw (layer-course room y l, rates-course s q known, no-bitrate q b), refl)
     attempt-only (five {q} room y u f) = (rw (rated-course room y u, eq-eqb _ _ f), refl)
@@ -316,5 +325,12 @@ attempt-room (six room y u f d) not = room
 attempt-room (zero room y u f d) not = room
 
 -- the first header is never refused with 6
-pub first-is-not-six : {s : List ℕ} {r : Reader} {known : Format} {x : Attempt} → known .samplerate ≡ 3 → Attempts s r known 6 x → ⊥
+first-is-not-six : {s : List ℕ} {r : Reader} {known : Format} {x : Attempt} → known .samplerate ≡ 3 → Attempts s r known 6 x → ⊥
 first-is-not-six e (six room y u f d) = subst T (sym (rw (eq-eqb _ _ e) at d)) tt
+
+pub first-number : {s : List ℕ} {r : Reader} {known : Format} {n : ℕ} {x : Attempt} → known .samplerate ≡ 3 → Attempts s r known n x → n ≤ 5
+first-number {s} {r} {known} {n} {x} e t = go (attempt-number t) (ℕ-discrete n 6)
+  where
+    go : n ≤ 6 → Dec (n ≡ 6) → n ≤ 5
+    go l (yes p) = absurd (first-is-not-six e (subst (λ (k : ℕ). Attempts s r known k x) p t))
+    go l (no p) = omega arith

@@ -3,6 +3,7 @@ pub mod Untouched
 pub mod Least
 pub mod Sound
 pub mod Tables
+pub mod Pairs
 pub mod Attempts
 pub mod Numbers
 pub mod Settled

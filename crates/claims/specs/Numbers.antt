@@ -33,7 +33,7 @@ use Rattle.audio.specs.declared.Rate.the-variants.{Hertz, Refused as RateRefuse
 use Rattle.audio.specs.declared.Answer.the-variants.{Refused as AnswerRefused}
 use Rattle.audio.specs.declared.Decoded.{Decoded}
 use Rattle.claims.specs.Tables.{Table, exactly}
-use Rattle.claims.specs.Attempts.{Attempts, refusal, attempt-table, attempt-number}
+use Rattle.claims.specs.Attempts.{Attempts, refusal, attempt-table, attempt-number, first-number}
 use Rattle.claims.specs.Pasts.{Past}
 use Rattle.claims.specs.Sound.{fresh-in-range, heading-stays-in-range, sound-state-in-range}
 
@@ -258,6 +258,15 @@ has-header-table s a = record { holds = stands; only = only }
     only (known l r e) = (simp (le-ltb _ _ l, r, ne-eqb _ _ e), refl)
     only (sought l r e t) = let o = tried-only s a l r t in (simp (le-ltb _ _ l, r, eq-eqb _ _ e) (o .0), o .1)
 
+has-header-row : {s : List ℕ} {a : Audio} {n : ℕ} {x : Asked} → Asks s a n x → (n ≤ 5) ⊎ ((n ≡ 8) ⊎ (n ≡ 10))
+has-header-row (eight l) = inr (inl refl)
+has-header-row (ten l r) = inr (inr refl)
+has-header-row (known l r e) = inl (omega arith)
+has-header-row (sought l r e t) = inl (first-number e t)
+
+pub has-header-gives : (s : List ℕ) (a : Audio) → let n = headingNumber (hasHeaderOf s a .answer) in (n ≤ 5) ⊎ ((n ≡ 8) ⊎ (n ≡ 10))
+has-header-gives s a = has-header-row (has-header-table s a .holds)
+
 -- ---- new: "it can give 0 to 5, 8 or 9 (memory only)"
 
 pub data Opens (s : List ℕ) (memory : List Float) : ℕ → Asked → Type 0 where
@@ -283,6 +292,15 @@ open-table s memory = record { holds = stands; only = only }
     only (eight l) = (simp (lt-ltb _ _ l), refl)
     only (nine l m) = (simp (le-ltb _ _ l, lt-ltb _ _ m), refl)
     only (sought l m t) = let o = tried-only s fresh l fresh-in-range t in (simp (le-ltb _ _ l, le-ltb _ _ m) (o .0), o .1)
+
+opening-row : {s : List ℕ} {memory : List Float} {n : ℕ} {x : Asked} → Opens s memory n x → (n ≤ 5) ⊎ ((n ≡ 8) ⊎ (n ≡ 9))
+unfolding fresh
+opening-row (eight l) = inr (inl refl)
+opening-row (nine l m) = inr (inr refl)
+opening-row (sought l m t) = inl (first-number refl t)
+
+pub opening-gives : (s : List ℕ) (memory : List Float) → let n = headingNumber (openOf s memory .answer) in (n ≤ 5) ⊎ ((n ≡ 8) ⊎ (n ≡ 9))
+opening-gives s memory = opening-row (open-table s memory .holds)
 
 -- ---- samplerate: "10, or the rate, which is 0 without a header"
 
