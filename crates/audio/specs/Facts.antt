@@ -93,14 +93,21 @@ or-else false b f = f refl
 pub in-range : (a : Audio) → Ranged a → inRange a ≡ true
 unfolding inRange numbersOk
 in-range a r =
-    simp
-    (le-leb _ _ (r .near), le-leb _ _ (r .few), le-leb _ _ (r .samplerate), le-leb _ _ (r .bitrate), le-leb _ _ (r .mode), le-leb _ _ (r .bound),
-    eq-eqb _ _ (r .place .whole), lt-ltb _ _ (r .place .below),
-    if-then (eqb (a .format .mode) 3) (eqb (a .format .bound) 0) (λ h. eq-eqb _ _ (r .mono (eqb-true _ _ h))),
-    or-else (eqb (a .pending) 0) (leb 90 (a .pending) && leb (a .pending) 1725)
-    (λ h. simp (le-leb _ _ (r .large (eqb-false _ _ h)), le-leb _ _ (r .small))),
-    if-then (eqb (a .format .samplerate) 3) (eqb (a .frames) 0 && eqb (a .pending) 0)
-    (λ h. simp (eq-eqb _ _ (r .first (eqb-true _ _ h)), eq-eqb _ _ (r .known (eqb-true _ _ h)))))
+    simp (
+      le-leb _ _ (r .near),
+      le-leb _ _ (r .few),
+      le-leb _ _ (r .samplerate),
+      le-leb _ _ (r .bitrate),
+      le-leb _ _ (r .mode),
+      le-leb _ _ (r .bound),
+      eq-eqb _ _ (r .place .whole),
+      lt-ltb _ _ (r .place .below),
+      if-then (eqb (a .format .mode) 3) (eqb (a .format .bound) 0) (λ h. eq-eqb _ _ (r .mono (eqb-true _ _ h))),
+      or-else (eqb (a .pending) 0) (leb 90 (a .pending) && leb (a .pending) 1725)
+          (λ h. simp (le-leb _ _ (r .large (eqb-false _ _ h)), le-leb _ _ (r .small))),
+      if-then (eqb (a .format .samplerate) 3) (eqb (a .frames) 0 && eqb (a .pending) 0)
+          (λ h. simp (eq-eqb _ _ (r .first (eqb-true _ _ h)), eq-eqb _ _ (r .known (eqb-true _ _ h)))),
+    )
     (r .time)
 
 -- ---- a header, pending or sought

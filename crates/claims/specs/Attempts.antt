@@ -173,8 +173,8 @@ module _ (s : List ℕ) (q : Reader) (known : Format) where
 
   rates-course : run (ratesOf >>= byRates known (checked s q)) s (protection s q .next)
       ≡ cond noBitrate (ran (Refused 4) (bitrate s q .next))
-        (cond (eqb (samplerate s q .value) 3) (ran (Refused 5) (samplerate s q .next))
-        (run (restOf known (checked s q) (bitrate s q .value - 1) (samplerate s q .value) (padding s q .value)) s (padding s q .next)))
+      (cond (eqb (samplerate s q .value) 3) (ran (Refused 5) (samplerate s q .next))
+      (run (restOf known (checked s q) (bitrate s q .value - 1) (samplerate s q .value) (padding s q .value)) s (padding s q .next)))
   unfolding ratesOf run _>>=_
   rates-course =
       push (λ (m : Reads RatesRead). run (m >>= byRates known (checked s q)) s (bitrate s q .next)) noBitrate _ _
@@ -273,8 +273,8 @@ module _ (s : List ℕ) (r : Reader) (short : length s ≤ 16777216) (near : r .
     rated-course : {q : Reader} → 48 ≤ left s r → Synced s r q → Rates s q
         → headerOf s r known
         ≡ attempt
-          (cond (eqb (samplerate s q .value) 3) (ran (Refused 5) (samplerate s q .next))
-          (cond (other s q known) (ran (Refused 6) (mode s q .next)) (ran (Accepted (format s q) (dataSize s q)) (afterCheck s q))))
+        (cond (eqb (samplerate s q .value) 3) (ran (Refused 5) (samplerate s q .next))
+        (cond (other s q known) (ran (Refused 6) (mode s q .next)) (ran (Accepted (format s q) (dataSize s q)) (afterCheck s q))))
     rated-course {q} room y u =
         layer-course room y (u .ident)
         ∙ ap attempt

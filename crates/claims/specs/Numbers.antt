@@ -133,10 +133,11 @@ module _ (s : List ℕ) (memory output : List Float) (a : Audio) where
   unfolding readyOf framedOf afterOf
   decode-only (eight l) = (decode-by (asked (Refused 8) a) (simp (lt-ltb _ _ l)), refl)
   decode-only (nine l (inl m)) = (decode-by (asked (Refused 9) a) (simp (le-ltb _ _ l, lt-ltb _ _ m)), refl)
-  decode-only (nine l (inr o)) =
-      (decode-by (asked (Refused 9) a)
-      (simp (le-ltb _ _ l, lt-ltb _ _ o) (by-test (λ (x : Asked). x ≡ asked (Refused 9) a) (ltb (length memory) 2048) _ _ (λ _. refl) (λ _. refl))),
-      refl)
+  decode-only (nine l (inr o)) = (
+    decode-by (asked (Refused 9) a)
+        (simp (le-ltb _ _ l, lt-ltb _ _ o) (by-test (λ (x : Asked). x ≡ asked (Refused 9) a) (ltb (length memory) 2048) _ _ (λ _. refl) (λ _. refl))),
+    refl,
+  )
   decode-only (ten l r) =
       (decode-by (asked (Refused 10) a) (simp (le-ltb _ _ (l .short), le-ltb _ _ (l .memory-long), le-ltb _ _ (l .output-long), r)), refl)
   decode-only (sought {n} {r} c e t) =

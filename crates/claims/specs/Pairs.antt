@@ -38,6 +38,7 @@ module _ (p : ℕ → Bool) where
       simp (f i (omega arith) (omega arith)) (omega (arith, passes k (i + 1) (λ j l m. f j (omega arith) (omega arith))))
 
 pub no-pair-found : (s : List ℕ) (i : ℕ) → (length s - 1 ≤ stopOf s i) ↔ ((j : ℕ) → i ≤ j → j + 1 < length s → pairAt s j ≡ false)
-no-pair-found s i =
-    (λ h j l m. passed (pairAt s) (length s - 1 - i) i (omega (arith, first-within (pairAt s) (length s - 1 - i) i)) j l (omega arith),
-    λ f. omega (arith, passes (pairAt s) (length s - 1 - i) i (λ j l m. f j l (omega arith))))
+no-pair-found s i = (
+  λ h j l m. passed (pairAt s) (length s - 1 - i) i (omega (arith, first-within (pairAt s) (length s - 1 - i) i)) j l (omega arith),
+  λ f. omega (arith, passes (pairAt s) (length s - 1 - i) i (λ j l m. f j l (omega arith))),
+)

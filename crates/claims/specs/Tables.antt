@@ -13,6 +13,7 @@ pub record Table {A : Type 0} (number : A → ℕ) (outcome : A) (Row : ℕ → 
 -- the number n is given exactly when a row of that number holds, and what is left behind is in it
 pub exactly : {A : Type 0} {number : A → ℕ} {outcome : A} {Row : ℕ → A → Type 0} → Table number outcome Row
     → (n : ℕ) (x : A) → ((x ≡ outcome) × (number outcome ≡ n)) ↔ Row n x
-exactly {number = number} {outcome} {Row} t n x =
-    (λ e. subst (λ y. Row n y) (sym (e .0)) (subst (λ k. Row k outcome) (e .1) (t .holds)),
-    λ r. let o = t .only r in (o .0, subst (λ y. number y ≡ n) (o .0) (o .1)))
+exactly {number = number} {outcome} {Row} t n x = (
+  λ e. subst (λ y. Row n y) (sym (e .0)) (subst (λ k. Row k outcome) (e .1) (t .holds)),
+  λ r. let o = t .only r in (o .0, subst (λ y. number y ≡ n) (o .0) (o .1)),
+)
