@@ -17,10 +17,8 @@ use Rattle.buffer.specs.Calls.{readerAt, left, fieldOf, hasOf, skipBytesOf, sea
 use Rattle.buffer.specs.Laws.{field-moves}
 use Rattle.buffer.specs.declared.Reader.{Reader}
 use Rattle.buffer.specs.declared.Field.{Field}
-use Rattle.buffer.specs.declared.Holds.{Holds}
-use Rattle.buffer.specs.declared.Holds.the-variants.{Yes, No}
-use Rattle.grammar.specs.Reads.{Reads, ask, done, _>>=_, Ran, ran, run}
-use Rattle.header.specs.Header.{boundBy, sizeOf, differs, bySearch, seekOf, syncOf, byHas, startOf, identOf, byIdent, ratesOf, byRates, modeOf, checkOf, boundOf, restOf, fieldsOf, attempt, byStart, headerOf, headerNumber}
+use Rattle.grammar.specs.Reads.{Reads, done, _>>=_, Ran, ran, run}
+use Rattle.header.specs.Header.{boundBy, sizeOf, differs, bySearch, seekOf, syncOf, startOf, identOf, byIdent, ratesOf, byRates, modeOf, checkOf, boundOf, restOf, fieldsOf, attempt, byStart, headerOf, headerNumber}
 use Rattle.header.specs.declared.Ident.{Ident}
 use Rattle.header.specs.declared.Rates.{Rates as RatesRead}
 use Rattle.header.specs.declared.Format.{Format}

@@ -1,6 +1,6 @@
 -- A frame whose data are there uses 16 bits at least: its table has 8 subbands or more, with an allocation of 2 bits or more each.
 -- So 01's "accepted frames times 16 at most the bit position" stays true as frames are decoded. Assumes nothing.
-use Prim.Native.Nat.{ℕ, zero, suc, _+_, _-_, _*_, _≤_, _<_, min}
+use Prim.Native.Nat.{ℕ, zero, suc, _+_, _*_, _≤_, _<_, min}
 use mathlib.Core.Path.{_≡_, refl}
 use mathlib.Core.Bool.{Bool, true, false}
 use mathlib.Core.List.{List}
@@ -8,11 +8,10 @@ use native.Mathlib.Omega.{arith}
 use lib.Dec.{T, eqb, ltb, leb, leb→le, lit≤}
 use borrow.Author.Tests.{ltb-true, ltb-false}
 use Rattle.ground.specs.Upto.{upto, below}
-use Rattle.buffer.specs.Calls.{fieldOf}
 use Rattle.buffer.specs.Laws.{Enough, field-whole}
 use Rattle.buffer.specs.declared.Reader.{Reader}
 use Rattle.grammar.specs.Reads.{Reads, _>>=_, Ran, run}
-use Rattle.grammar.specs.Run.{run-ask, run-bind}
+use Rattle.grammar.specs.Run.{run-bind}
 use Rattle.grammar.specs.Widths.{run-moves}
 use Rattle.tables.specs.Standard.{Table, B2a, B2b, B2c, B2d, rowsOf, sblimit, chosen, limitOf}
 use Rattle.tables.specs.Source.{rowOf, widthOf}
@@ -22,7 +21,7 @@ use Rattle.header.specs.declared.Format.{Format}
 use Rattle.side.specs.Bands.{bands, pairOf}
 use Rattle.side.specs.Side.{cutOf, allocationOf, allocationBandOf, allocationsOf, sideOf}
 use Rattle.codes.specs.Frame.{frameOf}
-use Rattle.frame.specs.Frame.{limitIn, codesIn, granulesAt}
+use Rattle.frame.specs.Frame.{codesIn, granulesAt}
 
 wide : (t : Table) → T (upto (λ sb. leb 2 (widthOf (numberOf t) sb)) (sblimit t))
 unfolding widthOf rowOf rowsOf sblimit

@@ -1,8 +1,8 @@
 -- The four public calls by 01's table: each number given exactly when, what is left behind, and the order where several would hold:
 -- 8, 9, 10, then 1 to 6 as the header is read, then 7. Each table has its rows as constructors. Assumes nothing.
-use Prim.Native.Nat.{ℕ, _+_, _*_, _≤_, _<_}
+use Prim.Native.Nat.{ℕ, _*_, _≤_, _<_}
 use mathlib.Core.Path.{_≡_, refl, sym, ap, subst, _∙_}
-use mathlib.Core.Bool.{Bool, true, false, cond}
+use mathlib.Core.Bool.{Bool, true, false}
 use mathlib.Core.List.{List}
 use mathlib.Core.Logic.{_⊎_, inl, inr}
 use native.Mathlib.Omega.{arith}
@@ -20,13 +20,12 @@ use Rattle.header.specs.declared.Header.{Header}
 use Rattle.header.specs.declared.Header.the-variants.{Accepted, Refused as HeaderRefused}
 use Rattle.header.specs.declared.Attempt.{Attempt}
 use Rattle.audio.specs.State.{fresh, inRange}
-use Rattle.audio.specs.Before.{asked, seeking, tried, attemptOf, headedOf, holding, enoughOf, goesOn, pended, readyOf}
+use Rattle.audio.specs.Before.{asked, seeking, tried, attemptOf, headedOf, enoughOf, pended, readyOf}
 use Rattle.audio.specs.Calls.{answering, remembering, sounding, afterOf, framedOf, framedMemory, framedOutput, decodeOf, decodeMemory, decodeOutput, openOf, hasHeaderOf, samplerateOf}
 use Rattle.audio.specs.Numbers.{headingNumber, rateNumber, answerNumber}
-use Rattle.audio.specs.Facts.{Ranged, ranged, Ready, goes}
+use Rattle.audio.specs.Facts.{ranged, Ready, goes}
 use Rattle.audio.specs.declared.Audio.{Audio}
 use Rattle.audio.specs.declared.Asked.{Asked}
-use Rattle.audio.specs.declared.Heading.{Heading}
 use Rattle.audio.specs.declared.Heading.the-variants.{Known, Refused}
 use Rattle.audio.specs.declared.Rate.{Rate}
 use Rattle.audio.specs.declared.Rate.the-variants.{Hertz, Refused as RateRefused}

@@ -1,12 +1,12 @@
 -- Each number of decode's table occurs, so no row's condition is empty: small streams and states, computed.
 -- Assumes nothing.
 use Prim.Native.Nat.{ℕ, _<_}
-use mathlib.Core.Path.{_≡_, refl, sym, ap, _∙_}
+use mathlib.Core.Path.{_≡_, refl}
 use mathlib.Core.Bool.{false}
 use mathlib.Core.List.{List, [], _∷_, _++_}
 use native.Mathlib.Omega.{arith}
 use lib.IntN.{pos}
-use lib.Ieee.{Float, fin, isNan, toBits, binary64, div, ofInt, round, units, odd, size}
+use lib.Ieee.{Float, fin, isNan, toBits, div, ofInt, round, units, odd, size}
 use lib.ListN.{length, replicate}
 use borrow.Author.Tests.{lt-ltb}
 use Rattle.ground.specs.First.{firstFrom}
@@ -21,7 +21,6 @@ use Rattle.audio.specs.Before.{attemptOf, headedOf, enoughOf, readyOf}
 use Rattle.audio.specs.Calls.{answering, afterOf, framedOf, decodeOf}
 use Rattle.audio.specs.Numbers.{headingNumber, answerNumber}
 use Rattle.audio.specs.declared.Audio.{Audio}
-use Rattle.audio.specs.declared.Asked.{Asked}
 use Rattle.audio.specs.declared.Heading.{Heading}
 use Rattle.audio.specs.declared.Heading.the-variants.{Known, Refused}
 

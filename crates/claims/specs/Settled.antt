@@ -1,8 +1,8 @@
 -- Calls on one stream come to rest. 01, "Numbers a call can give": "on the same stream 1 and 7 repeat for ever"; "From the bytes to
 -- a header": "on n bytes at most n/2 + 1 decode calls come before all answer 1 or 7". Assumes nothing.
-use Prim.Native.Nat.{ℕ, zero, suc, _+_, _-_, _*_, _/_, _≤_, _<_}
+use Prim.Native.Nat.{ℕ, zero, suc, _+_, _*_, _/_, _≤_, _<_}
 use mathlib.Core.Path.{_≡_, refl, sym, ap, subst, _∙_}
-use mathlib.Core.Bool.{true, false}
+use mathlib.Core.Bool.{true}
 use mathlib.Core.List.{List}
 use mathlib.Core.Logic.{_⊎_, inl, inr}
 use native.Mathlib.Nat.{add-zero, add-suc}
@@ -13,20 +13,18 @@ use lib.Dec.{T}
 use lib.Ieee.{Float}
 use lib.ListN.{length}
 use Rattle.buffer.specs.Calls.{left}
-use Rattle.buffer.specs.declared.Reader.{Reader}
-use Rattle.header.specs.Header.{headerOf}
 use Rattle.header.specs.Accepted.{Good, GoodHeader, header-good}
 use Rattle.header.specs.Moves.{attempt-moves}
 use Rattle.header.specs.declared.Attempt.{Attempt}
 use Rattle.audio.specs.State.{inRange}
-use Rattle.audio.specs.Calls.{framedOf, decodeOf}
+use Rattle.audio.specs.Calls.{decodeOf}
 use Rattle.audio.specs.Numbers.{answerNumber}
 use Rattle.audio.specs.Facts.{ranged}
 use Rattle.audio.specs.declared.Audio.{Audio}
 use Rattle.audio.specs.declared.Decoded.{Decoded}
 use Rattle.claims.specs.Tables.{exactly}
 use Rattle.claims.specs.Attempts.{Attempts, one, attempt-table, attempt-number, attempt-room}
-use Rattle.claims.specs.Numbers.{Lent, Called, Heads, waits, accepts, Decodes, eight, nine, ten, sought, seven, zero as frame, refused, decode-table, heads-within, decoded-frame-ready}
+use Rattle.claims.specs.Numbers.{Lent, Heads, waits, accepts, Decodes, eight, nine, ten, sought, seven, zero as frame, refused, decode-table, heads-within, decoded-frame-ready}
 use Rattle.claims.specs.Sound.{frame-moves, decode-stays-in-range}
 
 -- ---- 1 and 7 repeat

@@ -1,7 +1,7 @@
 -- What it means that a table of numbers is a call's: 01's "given exactly when", both ways, with all that is left behind.
 -- Assumes nothing.
 use Prim.Native.Nat.{ℕ}
-use mathlib.Core.Path.{_≡_, refl, sym, subst}
+use mathlib.Core.Path.{_≡_, sym, subst}
 use mathlib.Core.Logic.{_↔_}
 
 -- Row n x: a row of the table whose condition holds, with its number and its outcome. The call's outcome stands in such a row,
