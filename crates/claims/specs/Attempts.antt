@@ -7,7 +7,7 @@ use mathlib.Core.List.{List}
 use mathlib.Core.Logic.{_⊎_, inl, inr}
 use native.Mathlib.Decide.{ℕ-discrete}
 use native.Mathlib.Omega.{arith}
-use lib.Dec.{T, eqb, ltb}
+use lib.Dec.{eqb, ltb}
 use lib.ListN.{length}
 use borrow.Author.Tests.{lt-ltb, le-ltb, eq-eqb, ne-eqb, eqb-true, eqb-false, ltb-true, ltb-false}
 use Rattle.ground.specs.Tests.{by-test, both, neither, either}
@@ -19,6 +19,7 @@ use Rattle.buffer.specs.declared.Reader.{Reader}
 use Rattle.buffer.specs.declared.Field.{Field}
 use Rattle.grammar.specs.Reads.{Reads, done, _>>=_, Ran, ran, run}
 use Rattle.header.specs.Header.{boundBy, sizeOf, differs, bySearch, seekOf, syncOf, startOf, identOf, byIdent, ratesOf, byRates, modeOf, checkOf, boundOf, restOf, fieldsOf, attempt, byStart, headerOf, headerNumber}
+use Rattle.header.specs.Accepted.{Same, same-format}
 use Rattle.header.specs.declared.Ident.{Ident}
 use Rattle.header.specs.declared.Rates.{Rates as RatesRead}
 use Rattle.header.specs.declared.Format.{Format}
@@ -27,7 +28,7 @@ use Rattle.header.specs.declared.Header.the-variants.{Accepted, Refused}
 use Rattle.header.specs.declared.Attempt.{Attempt}
 use Rattle.header.specs.declared.Start.{Start}
 use Rattle.header.specs.declared.Start.the-variants.{At, Refused as StartRefused}
-use Rattle.claims.specs.Tables.{Table}
+use Rattle.claims.specs.Tables.{Table, never}
 use Rattle.claims.specs.Pairs.{no-pair-found}
 use Rattle.claims.specs.Sound.{stays}
 
@@ -132,11 +133,11 @@ pub data Attempts (s : List ℕ) (r : Reader) (known : Format) : ℕ → Attempt
       → Attempts s r known 5 (refusal 5 (samplerate s q .next))
   -- "a header was accepted earlier, and bit rate, sample rate or mode differs"
   six : {q : Reader} → 48 ≤ left s r → Synced s r q → Rates s q → (samplerate s q .value ≡ 3 → ⊥)
-      → differs known (format s q .bitrate) (format s q .samplerate) (format s q .mode) ≡ true
+      → (known .samplerate ≡ 3 → ⊥) → (Same known (format s q) → ⊥)
       → Attempts s r known 6 (refusal 6 (mode s q .next))
   -- "header accepted"
   zero : {q : Reader} → 48 ≤ left s r → Synced s r q → Rates s q → (samplerate s q .value ≡ 3 → ⊥)
-      → differs known (format s q .bitrate) (format s q .samplerate) (format s q .mode) ≡ false
+      → ((known .samplerate ≡ 3 → ⊥) → Same known (format s q))
       → Attempts s r known 0 (record { header = Accepted (format s q) (dataSize s q); next = afterCheck s q })
 
 -- ---- the course of the fields: one choice after the other
@@ -184,6 +185,33 @@ module _ (s : List ℕ) (q : Reader) (known : Format) where
   unfolding fieldsOf identOf run _>>=_
   fields-course = push (λ (i : Ident). run (byIdent known i) s (protection s q .next)) isLayerII _ _
 
+is-true : (t : Bool) → (t ≡ false → ⊥) → t ≡ true
+is-true true f = refl
+is-true false f = absurd (f refl)
+
+is-false : (t : Bool) → (t ≡ true → ⊥) → t ≡ false
+is-false true f = absurd (f refl)
+is-false false f = refl
+
+-- what the choices say of the fields
+module _ (s : List ℕ) (q : Reader) (known : Format) where
+  is-layer : isLayerII s q known ≡ true → LayerII s q
+  is-layer e = let b = both e in record { version-3 = eqb-true _ _ (b .first); layer-2 = eqb-true _ _ (b .second) }
+
+  not-layer : (LayerII s q → ⊥) → isLayerII s q known ≡ false
+  not-layer n = is-false (isLayerII s q known) (λ e. n (is-layer e))
+
+  no-bitrate : (bitrate s q .value ≡ 0) ⊎ (bitrate s q .value ≡ 15) → noBitrate s q known ≡ true
+  no-bitrate (inl e) = rw e
+  no-bitrate (inr e) = rw e
+
+  other-is-known : other s q known ≡ true → known .samplerate ≡ 3 → ⊥
+  other-is-known d e = never d (rw (eq-eqb _ _ e))
+
+  other-is-not-same : other s q known ≡ true → Same known (format s q) → ⊥
+  other-is-not-same d w =
+      never d (rw (ne-eqb _ _ (other-is-known d), eq-eqb _ _ (sym (w .bitrate)), eq-eqb _ _ (sym (w .samplerate)), eq-eqb _ _ (sym (w .mode))))
+
 -- ---- the course of the sync, where 48 bits are left
 
 module _ (s : List ℕ) (r : Reader) (short : length s ≤ 16777216) (near : r .at .0 ≤ 134217736) where
@@ -219,14 +247,11 @@ module _ (s : List ℕ) (r : Reader) (short : length s ≤ 16777216) (near : r .
     unfolding Stands
     fields-stand {q} room y =
         rw (fields-course s q known)
-        (by-test S (isLayerII s q known) _ _ (λ i. let b = both i in rated (record { version-3 = eqb-true _ _ (b .first); layer-2 = eqb-true _ _ (b .second) }))
-        (λ i. three room y (λ l. no (rw (eq-eqb _ _ (l .version-3), eq-eqb _ _ (l .layer-2)) at i))))
+        (by-test S (isLayerII s q known) _ _ (λ i. rated (is-layer s q known i))
+        (λ i. three room y (λ l. never (rw (eq-eqb _ _ (l .version-3), eq-eqb _ _ (l .layer-2))) i)))
       where
         S : Ran Header → Type 0
         S x = Stands (attempt x)
-
-        no : true ≡ false → ⊥
-        no e = subst T e tt
 
         rated : LayerII s q → S (run (ratesOf >>= byRates known (checked s q)) s (protection s q .next))
         rated l =
@@ -235,7 +260,8 @@ module _ (s : List ℕ) (r : Reader) (short : length s ≤ 16777216) (near : r .
             (λ b. let n = neither (eqb (bitrate s q .value) 0) _ b in
             let u : Rates s q = record { ident = l; some-bitrate = eqb-false _ _ (n .0); no-free-bitrate = eqb-false _ _ (n .1) } in
             by-test S (eqb (samplerate s q .value) 3) _ _ (λ f. five room y u (eqb-true _ _ f))
-            (λ f. by-test S (other s q known) _ _ (λ d. six room y u (eqb-false _ _ f) d) (λ d. zero room y u (eqb-false _ _ f) d))))
+            (λ f. by-test S (other s q known) _ _ (λ d. six room y u (eqb-false _ _ f) (other-is-known s q known d) (other-is-not-same s q known d))
+            (λ d. zero room y u (eqb-false _ _ f) (same-format known (format s q) d)))))
 
     attempt-stands : Stands (headerOf s r known)
     unfolding Stands headerOf
@@ -278,25 +304,18 @@ module _ (s : List ℕ) (r : Reader) (short : length s ≤ 16777216) (near : r .
         ∙ ap attempt
         (rates-course s q known ∙ simp (ne-eqb _ _ (u .some-bitrate), ne-eqb _ _ (u .no-free-bitrate), rest-course s q known))
 
-    not-layer : {q : Reader} → (LayerII s q → ⊥) → isLayerII s q known ≡ false
-    not-layer {q} n = go (isLayerII s q known) (λ e. let b = both e in n (record { version-3 = eqb-true _ _ (b .first); layer-2 = eqb-true _ _ (b .second) }))
-      where
-        go : (t : Bool) → (t ≡ true → ⊥) → t ≡ false
-        go true f = absurd (f refl)
-        go false f = refl
-
-    no-bitrate : (q : Reader) → (bitrate s q .value ≡ 0) ⊎ (bitrate s q .value ≡ 15) → noBitrate s q known ≡ true
-    no-bitrate q (inl e) = rw e
-    no-bitrate q (inr e) = rw e
-
     attempt-only : {n : ℕ} {x : Attempt} → Attempts s r known n x → (x ≡ headerOf s r known) × (headerNumber (x .header) ≡ n)
     attempt-only (one l) = (rw (stays s r known short near l), refl)
     attempt-only (two room o f) = (rw (unsynced room o (no-pair-found s (from s r) .1 f)), refl)
-    attempt-only (three {q} room y n) = (rw (after-sync room y, fields-course s q known, not-layer n), refl)
-    attempt-only (four {q} room y l b) = (rw (layer-course room y l, rates-course s q known, no-bitrate q b), refl)
+    attempt-only (three {q} room y n) = (rw (after-sync room y, fields-course s q known, not-layer s q known n), refl)
+    attempt-only (four {q} room y l b) = (rw (layer-course room y l, rates-course s q known, no-bitrate s q known b), refl)
     attempt-only (five {q} room y u f) = (rw (rated-course room y u, eq-eqb _ _ f), refl)
-    attempt-only (six {q} room y u f d) = (rw (rated-course room y u, ne-eqb _ _ f, d), refl)
-    attempt-only (zero {q} room y u f d) = (rw (rated-course room y u, ne-eqb _ _ f, d), refl)
+    attempt-only (six {q} room y u f known-one differ) =
+        let d = is-true (other s q known) (λ d. differ (same-format known (format s q) d known-one)) in
+        (rw (rated-course room y u, ne-eqb _ _ f, d), refl)
+    attempt-only (zero {q} room y u f same) =
+        let d = is-false (other s q known) (λ d. other-is-not-same s q known d (same (other-is-known s q known d))) in
+        (rw (rated-course room y u, ne-eqb _ _ f, d), refl)
 
     pub attempt-table : Table (λ (x : Attempt). headerNumber (x .header)) (headerOf s r known) (Attempts s r known)
     unfolding Stands
@@ -309,7 +328,7 @@ attempt-number (two room o l) = omega arith
 attempt-number (three room y n) = omega arith
 attempt-number (four room y l b) = omega arith
 attempt-number (five room y u f) = omega arith
-attempt-number (six room y u f d) = omega arith
+attempt-number (six room y u f k d) = omega arith
 attempt-number (zero room y u f d) = omega arith
 
 -- with any number but 1 there were 48 bits
@@ -319,12 +338,12 @@ attempt-room (two room o l) not = room
 attempt-room (three room y n) not = room
 attempt-room (four room y l b) not = room
 attempt-room (five room y u f) not = room
-attempt-room (six room y u f d) not = room
+attempt-room (six room y u f k d) not = room
 attempt-room (zero room y u f d) not = room
 
 -- the first header is never refused with 6
 first-is-not-six : {s : List ℕ} {r : Reader} {known : Format} {x : Attempt} → known .samplerate ≡ 3 → Attempts s r known 6 x → ⊥
-first-is-not-six e (six room y u f d) = subst T (sym (rw (eq-eqb _ _ e) at d)) tt
+first-is-not-six e (six room y u f k d) = k e
 
 pub first-number : {s : List ℕ} {r : Reader} {known : Format} {n : ℕ} {x : Attempt} → known .samplerate ≡ 3 → Attempts s r known n x → n ≤ 5
 first-number {s} {r} {known} {n} {x} e t = go (attempt-number t) (ℕ-discrete n 6)

@@ -6,7 +6,7 @@ use mathlib.Core.Bool.{Bool, true, false}
 use mathlib.Core.List.{List}
 use mathlib.Core.Logic.{_⊎_, inl, inr}
 use native.Mathlib.Omega.{arith}
-use lib.Dec.{T, eqb, ltb}
+use lib.Dec.{eqb, ltb}
 use lib.Ieee.{Float}
 use lib.ListN.{length}
 use borrow.Author.Tests.{lt-ltb, le-ltb, eq-eqb, ne-eqb, eqb-true, eqb-false, ltb-true, ltb-false}
@@ -31,7 +31,7 @@ use Rattle.audio.specs.declared.Rate.{Rate}
 use Rattle.audio.specs.declared.Rate.the-variants.{Hertz, Refused as RateRefused}
 use Rattle.audio.specs.declared.Answer.the-variants.{Refused as AnswerRefused}
 use Rattle.audio.specs.declared.Decoded.{Decoded}
-use Rattle.claims.specs.Tables.{Table, exactly}
+use Rattle.claims.specs.Tables.{Table, exactly, never}
 use Rattle.claims.specs.Attempts.{Attempts, refusal, attempt-table, attempt-number, first-number}
 use Rattle.claims.specs.Pasts.{Past}
 use Rattle.claims.specs.Sound.{fresh-in-range, heading-stays-in-range, sound-state-in-range}
@@ -326,9 +326,6 @@ pub no-header-no-rate : rateOf 3 ≡ 0
 no-header-no-rate = refl
 
 -- ---- 10 is never given by a decoder with a past, nor by an opening
-
-never : {t : Bool} → t ≡ true → t ≡ false → ⊥
-never e f = subst T (sym e ∙ f) tt
 
 decode-ten : {s : List ℕ} {memory output : List Float} {a : Audio} {x : Decoded} → Decodes s memory output a 10 x → inRange a ≡ false
 decode-ten (ten l r) = r

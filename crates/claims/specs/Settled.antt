@@ -9,7 +9,6 @@ use native.Mathlib.Nat.{add-zero, add-suc}
 use native.Mathlib.Numerals.{add-one}
 use native.Mathlib.Omega.{arith}
 use native.Mathlib.Decide.{ℕ-discrete}
-use lib.Dec.{T}
 use lib.Ieee.{Float}
 use lib.ListN.{length}
 use Rattle.buffer.specs.Calls.{left}
@@ -22,7 +21,7 @@ use Rattle.audio.specs.Numbers.{answerNumber}
 use Rattle.audio.specs.Facts.{ranged}
 use Rattle.audio.specs.declared.Audio.{Audio}
 use Rattle.audio.specs.declared.Decoded.{Decoded}
-use Rattle.claims.specs.Tables.{exactly}
+use Rattle.claims.specs.Tables.{exactly, never}
 use Rattle.claims.specs.Attempts.{Attempts, one, attempt-table, attempt-number, attempt-room}
 use Rattle.claims.specs.Numbers.{Lent, Heads, waits, accepts, Decodes, eight, nine, ten, sought, seven, zero as frame, refused, decode-table, heads-within, decoded-frame-ready}
 use Rattle.claims.specs.Sound.{frame-moves, decode-stays-in-range}
@@ -77,7 +76,7 @@ unsettled-moves : {s : List ℕ} {memory output : List Float} {a : Audio} {n : �
 unsettled-moves l r (eight h) p q = absurd (let k = l .short in omega arith)
 unsettled-moves l r (nine _ (inl h)) p q = absurd (let k = l .memory-long in omega arith)
 unsettled-moves l r (nine _ (inr h)) p q = absurd (let k = l .output-long in omega arith)
-unsettled-moves l r (ten _ h) p q = absurd (subst T (sym r ∙ h) tt)
+unsettled-moves l r (ten _ h) p q = absurd (never r h)
 unsettled-moves {s} {a = a} l r (sought c e t) p q = attempt-forth s a (l .short) r t p
 unsettled-moves l r (seven c h k) p q = absurd (q refl)
 unsettled-moves {s} {memory} {output} {a} l r (frame {b} c h k) p q =
@@ -91,7 +90,7 @@ late : {s : List ℕ} {memory output : List Float} {a : Audio} {n : ℕ} {x : De
 late l r few (eight h) = absurd (let k = l .short in omega arith)
 late l r few (nine _ (inl h)) = absurd (let k = l .memory-long in omega arith)
 late l r few (nine _ (inr h)) = absurd (let k = l .output-long in omega arith)
-late l r few (ten _ h) = absurd (subst T (sym r ∙ h) tt)
+late l r few (ten _ h) = absurd (never r h)
 late l r few (sought {n} c e t) = go (ℕ-discrete n 1)
   where
     go : Dec (n ≡ 1) → (n ≡ 1) ⊎ (n ≡ 7)
@@ -168,6 +167,7 @@ module _ (s : List ℕ) (memory output : ℕ → List Float) (a : Audio) where
           go (inr l) (no d) (yes e) = inl (7, inr refl, rests-at-seven k e)
           go (inr l) (no d) (no e) = inr (omega (arith, moves-on k d e))
 
+      -- calls 0 to n/2 may give another number; every later one gives 1 or 7
       pub settles : (k : ℕ) → length s / 2 + 1 ≤ k → (numberAt k ≡ 1) ⊎ (numberAt k ≡ 7)
       unfolding Course
       settles k l = go (course k)

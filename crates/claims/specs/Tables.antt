@@ -1,8 +1,10 @@
 -- What it means that a table of numbers is a call's: 01's "given exactly when", both ways, with all that is left behind.
 -- Assumes nothing.
 use Prim.Native.Nat.{ℕ}
-use mathlib.Core.Path.{_≡_, sym, subst}
+use mathlib.Core.Path.{_≡_, sym, subst, _∙_}
+use mathlib.Core.Bool.{Bool, true, false}
 use mathlib.Core.Logic.{_↔_}
+use lib.Dec.{T}
 
 -- Row n x: a row of the table whose condition holds, with its number and its outcome. The call's outcome stands in such a row,
 -- and no other outcome or number does: so at most one row holds, in whatever order they are read.
@@ -17,3 +19,7 @@ exactly {number = number} {outcome} {Row} t n x = (
   λ e. subst (λ y. Row n y) (sym (e .0)) (subst (λ k. Row k outcome) (e .1) (t .holds)),
   λ r. let o = t .only r in (o .0, subst (λ y. number y ≡ n) (o .0) (o .1)),
 )
+
+-- a test does not come out both ways
+pub never : {t : Bool} → t ≡ true → t ≡ false → ⊥
+never e f = subst T (sym e ∙ f) tt

@@ -107,8 +107,8 @@ pub record Same (known f : Format) : Type 0 where
   pub samplerate : f .samplerate ≡ known .samplerate
   pub mode : f .mode ≡ known .mode
 
-same : (known f : Format) → differs known (f .bitrate) (f .samplerate) (f .mode) ≡ false → (known .samplerate ≡ 3 → ⊥) → Same known f
-same known f d n =
+pub same-format : (known f : Format) → differs known (f .bitrate) (f .samplerate) (f .mode) ≡ false → (known .samplerate ≡ 3 → ⊥) → Same known f
+same-format known f d n =
     let x = neither (not (eqb (known .bitrate) (f .bitrate)) || not (eqb (known .samplerate) (f .samplerate))) _ (rw (ne-eqb _ _ n) at d) in
     let y = neither (not (eqb (known .bitrate) (f .bitrate))) _ (x .0) in
     record { bitrate = is _ _ (y .0); samplerate = is _ _ (y .1); mode = is _ _ (x .1) }
@@ -148,7 +148,7 @@ rest-good known check b f p l m n =
       bound = rw (h .2) (y .0);
       mono = rw (h .2) (y .1);
       extension = h;
-      same = same known _ d;
+      same = same-format known _ d;
       least = z .0;
       most = z .1;
     })))
