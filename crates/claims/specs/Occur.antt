@@ -1,5 +1,5 @@
--- Each number of decode's table occurs, so no row's condition is empty: small streams and states, computed.
--- Assumes nothing.
+-- The promises' premises can be met: each number of decode's table occurs, on small streams and states, computed; calls are lent
+-- enough; and there are pasts. Assumes nothing.
 use Prim.Native.Nat.{ℕ, _<_}
 use mathlib.Core.Path.{_≡_, refl}
 use mathlib.Core.Bool.{false}
@@ -18,11 +18,13 @@ use Rattle.header.specs.Header.{headerOf, startOf, syncOf, seekOf, fieldsOf, id
 use Rattle.clock.specs.Clock.{startOf as timeOf, sameBits, onTime}
 use Rattle.audio.specs.State.{fresh, numbersOk, inRange}
 use Rattle.audio.specs.Before.{attemptOf, headedOf, enoughOf, readyOf}
-use Rattle.audio.specs.Calls.{answering, afterOf, framedOf, decodeOf}
+use Rattle.audio.specs.Calls.{answering, afterOf, framedOf, decodeOf, openOf, openMemory}
 use Rattle.audio.specs.Numbers.{headingNumber, answerNumber}
 use Rattle.audio.specs.declared.Audio.{Audio}
 use Rattle.audio.specs.declared.Heading.{Heading}
 use Rattle.audio.specs.declared.Heading.the-variants.{Known, Refused}
+use Rattle.claims.specs.Numbers.{Lent}
+use Rattle.claims.specs.Pasts.{Past, opened}
 
 -- decode's number goes by the verdict, and so by the lengths of memory and output only
 abbrev pub verdict : List ℕ → ℕ → ℕ → Audio → ℕ
@@ -85,3 +87,19 @@ eight-occurs memory output a = simp (lt-ltb 16777216 (length long) many)
   where
     many : 16777216 < length long
     many = omega (arith, long-length)
+
+-- ---- a call that is lent enough, and a past
+
+abbrev pub quiet : ℕ → List Float
+quiet n = table n (λ _. fin false 0 (pos 0))
+
+pub enough-lent : Lent [] (quiet 2048) (quiet 2304)
+enough-lent =
+    record {
+      short = omega arith;
+      memory-long = omega (arith, length-table 2048 (λ (_ : ℕ). fin false 0 (pos 0)));
+      output-long = omega (arith, length-table 2304 (λ (_ : ℕ). fin false 0 (pos 0)));
+    }
+
+pub a-past : Past (openOf [] (quiet 2048) .state) (openMemory [] (quiet 2048))
+a-past = opened [] (quiet 2048) (enough-lent .short) (enough-lent .memory-long)

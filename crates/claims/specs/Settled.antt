@@ -71,34 +71,24 @@ heads-some {s} {a} short r (accepts {f} {size} e t) z =
     let g : Good (a .format) f size = subst (λ (x : Attempt). GoodHeader (a .format) (x .header)) (sym o) (header-good s (a .reader) (a .format)) in
     omega arith
 
+-- with a header waiting 720 bits are left for its data; else there were 48 for the attempt
+heads-room : {s : List ℕ} {a b : Audio} → inRange a ≡ true → Heads s a b → 8 * b .pending ≤ left s (b .reader) → 48 ≤ left s (a .reader)
+heads-room {a = a} r (waits n) l = let large = ranged a r .large n in omega arith
+heads-room r (accepts e t) l = attempt-room t (λ z. omega arith)
+
 unsettled-moves : {s : List ℕ} {memory output : List Float} {a : Audio} {n : ℕ} {x : Decoded} → Lent s memory output → inRange a ≡ true
-    → Decodes s memory output a n x → (n ≡ 1 → ⊥) → (n ≡ 7 → ⊥) → a .reader .at .0 + 16 ≤ x .state .reader .at .0
+    → Decodes s memory output a n x → (n ≡ 1 → ⊥) → (n ≡ 7 → ⊥)
+    → (48 ≤ left s (a .reader)) × (a .reader .at .0 + 16 ≤ x .state .reader .at .0)
 unsettled-moves l r (eight h) p q = absurd (let k = l .short in omega arith)
 unsettled-moves l r (nine _ (inl h)) p q = absurd (let k = l .memory-long in omega arith)
 unsettled-moves l r (nine _ (inr h)) p q = absurd (let k = l .output-long in omega arith)
 unsettled-moves l r (ten _ h) p q = absurd (never r h)
-unsettled-moves {s} {a = a} l r (sought c e t) p q = attempt-forth s a (l .short) r t p
+unsettled-moves {s} {a = a} l r (sought c e t) p q = (attempt-room t p, attempt-forth s a (l .short) r t p)
 unsettled-moves l r (seven c h k) p q = absurd (q refl)
 unsettled-moves {s} {memory} {output} {a} l r (frame {b} c h k) p q =
     let i = heads-within s memory output a c h in
     let m = frame-moves s b (decoded-frame-ready s memory output a c h k) (ranged b i) (heads-some (l .short) r h) in
-    omega (arith, heads-forth (l .short) r h)
-
--- and where fewer than 48 bits are left, a call gives 1 or 7
-late : {s : List ℕ} {memory output : List Float} {a : Audio} {n : ℕ} {x : Decoded} → Lent s memory output → inRange a ≡ true
-    → left s (a .reader) < 48 → Decodes s memory output a n x → (n ≡ 1) ⊎ (n ≡ 7)
-late l r few (eight h) = absurd (let k = l .short in omega arith)
-late l r few (nine _ (inl h)) = absurd (let k = l .memory-long in omega arith)
-late l r few (nine _ (inr h)) = absurd (let k = l .output-long in omega arith)
-late l r few (ten _ h) = absurd (never r h)
-late l r few (sought {n} c e t) = go (ℕ-discrete n 1)
-  where
-    go : Dec (n ≡ 1) → (n ≡ 1) ⊎ (n ≡ 7)
-    go (yes p) = inl p
-    go (no p) = absurd (let room = attempt-room t p in omega arith)
-late l r few (seven c h k) = inr refl
-late {a = a} l r few (frame c (waits n) k) = absurd (let g = ranged a r .large n in omega arith)
-late l r few (frame c (accepts e t) k) = absurd (let room = attempt-room t (λ z. omega arith) in omega arith)
+    (heads-room r h k, omega (arith, heads-forth (l .short) r h))
 
 -- ---- a run of calls on one stream, with any memories and outputs, from any state
 
@@ -147,8 +137,9 @@ module _ (s : List ℕ) (memory output : ℕ → List Float) (a : Audio) where
       stays-within zero = within
       stays-within (suc k) = decode-stays-in-range s (memory k) (output k) (stateAfter k) (stays-within k)
 
-      -- the measure: a call that gives neither 1 nor 7 moves the position on by 16 bits at least
-      pub moves-on : (k : ℕ) → (numberAt k ≡ 1 → ⊥) → (numberAt k ≡ 7 → ⊥) → stateAfter k .reader .at .0 + 16 ≤ stateAfter (suc k) .reader .at .0
+      -- the measure: a call that gives neither 1 nor 7 had 48 bits left and moves the position on by 16 at least
+      pub moves-on : (k : ℕ) → (numberAt k ≡ 1 → ⊥) → (numberAt k ≡ 7 → ⊥)
+          → (48 ≤ left s (stateAfter k .reader)) × (stateAfter k .reader .at .0 + 16 ≤ stateAfter (suc k) .reader .at .0)
       unfolding stateAfter
       moves-on k = unsettled-moves (lent k) (stays-within k) (decode-table s (memory k) (output k) (stateAfter k) .holds)
 
@@ -165,15 +156,16 @@ module _ (s : List ℕ) (memory output : ℕ → List Float) (a : Audio) where
           go (inl (n, p, h)) d e = inl (n, p, subst (Settled s n) (sym (ap stateAfter (sym (add-one k)) ∙ settled-state n k h 1)) h)
           go (inr l) (yes d) e = inl (1, inl refl, rests-at-one k d)
           go (inr l) (no d) (yes e) = inl (7, inr refl, rests-at-seven k e)
-          go (inr l) (no d) (no e) = inr (omega (arith, moves-on k d e))
+          go (inr l) (no d) (no e) = inr (omega (arith, moves-on k d e .1))
 
       -- calls 0 to n/2 may give another number; every later one gives 1 or 7
       pub settles : (k : ℕ) → length s / 2 + 1 ≤ k → (numberAt k ≡ 1) ⊎ (numberAt k ≡ 7)
       unfolding Course
-      settles k l = go (course k)
+      settles k l = go (course k) (ℕ-discrete (numberAt k) 1) (ℕ-discrete (numberAt k) 7)
         where
-          go : Course k → (numberAt k ≡ 1) ⊎ (numberAt k ≡ 7)
-          go (inl (n, p, h)) =
+          go : Course k → Dec (numberAt k ≡ 1) → Dec (numberAt k ≡ 7) → (numberAt k ≡ 1) ⊎ (numberAt k ≡ 7)
+          go c (yes d) e = inl d
+          go c (no d) (yes e) = inr e
+          go (inl (n, p, h)) (no d) (no e) =
               subst (λ (m : ℕ). (m ≡ 1) ⊎ (m ≡ 7)) (sym (ap (λ (x : Decoded). answerNumber (x .answer)) (h (memory k) (output k) (lent k)))) p
-          go (inr far) =
-              late (lent k) (stays-within k) (omega arith) (decode-table s (memory k) (output k) (stateAfter k) .holds)
+          go (inr far) (no d) (no e) = absurd (let room = moves-on k d e .0 in omega arith)
