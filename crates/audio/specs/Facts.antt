@@ -8,11 +8,12 @@ use native.Mathlib.Omega.{arith}
 use lib.ListN.{length, drop}
 use lib.Ieee.{Float}
 use lib.Dec.{T, eqb, ltb, leb}
-use borrow.Author.Tests.{ltb-true, ltb-false, leb-true, eqb-true, eqb-false, eq-eqb, lt-ltb, le-ltb}
+use borrow.Author.Tests.{ltb-true, ltb-false, leb-true, eqb-true, eqb-false, eq-eqb, lt-ltb, le-ltb, le-leb}
 use Rattle.ground.specs.Tests.{by-test, both, unless, either}
 use Rattle.buffer.specs.Calls.{hasOf, left}
 use Rattle.buffer.specs.declared.Reader.{Reader}
 use Rattle.buffer.specs.declared.Holds.{Holds}
+use Rattle.clock.specs.Clock.{onTime}
 use Rattle.header.specs.Header.{headerOf}
 use Rattle.header.specs.Accepted.{Good, GoodHeader, header-good}
 use Rattle.header.specs.declared.Header.{Header}
@@ -40,13 +41,17 @@ pub record Ranged (a : Audio) : Type 0 where
   pub bitrate : a .format .bitrate ≤ 13
   pub mode : a .format .mode ≤ 3
   pub bound : a .format .bound ≤ 32
+  pub mono : a .format .mode ≡ 3 → a .format .bound ≡ 0
   pub place : Place (a .ring)
+  pub large : (a .pending ≡ 0 → ⊥) → 90 ≤ a .pending
   pub small : a .pending ≤ 1725
   pub known : a .format .samplerate ≡ 3 → a .pending ≡ 0
+  pub first : a .format .samplerate ≡ 3 → a .frames ≡ 0
+  pub time : onTime (a .time) (a .frames) (a .format .samplerate) ≡ true
 
-numbers-say : (a : Audio) → numbersOk a ≡ true → Ranged a
+numbers-say : (a : Audio) → numbersOk a ≡ true → onTime (a .time) (a .frames) (a .format .samplerate) ≡ true → Ranged a
 unfolding numbersOk
-numbers-say a e =
+numbers-say a e time =
     let t10 = both e in let t9 = both (t10 .first) in let t8 = both (t9 .first) in let t7 = both (t8 .first) in let t6 = both (t7 .first) in
     let t5 = both (t6 .first) in let t4 = both (t5 .first) in let t3 = both (t4 .first) in let t2 = both (t3 .first) in let t1 = both (t2 .first) in
     record {
@@ -56,11 +61,17 @@ numbers-say a e =
       bitrate = leb-true _ _ (t3 .second);
       mode = leb-true _ _ (t4 .second);
       bound = leb-true _ _ (t5 .second);
+      mono = λ h. eqb-true _ _ (unless {a = eqb (a .format .mode) 3} (t6 .second) (eq-eqb _ _ h));
       place = record { whole = eqb-true _ _ (t7 .second); below = ltb-true _ _ (t8 .second) };
+      large =
+          λ n. either (90 ≤ a .pending) (t9 .second) (λ h. absurd (n (eqb-true _ _ h)))
+          (λ h. leb-true _ _ (both {a = leb 90 (a .pending)} h .first));
       small =
           either (a .pending ≤ 1725) (t9 .second) (λ h. none (eqb-true _ _ h))
           (λ h. leb-true _ _ (both {a = leb 90 (a .pending)} h .second));
       known = λ h. eqb-true _ _ (both {a = eqb (a .frames) 0} (unless {a = eqb (a .format .samplerate) 3} (t10 .second) (eq-eqb _ _ h)) .second);
+      first = λ h. eqb-true _ _ (both {a = eqb (a .frames) 0} (unless {a = eqb (a .format .samplerate) 3} (t10 .second) (eq-eqb _ _ h)) .first);
+      time = time;
     }
   where
     none : a .pending ≡ 0 → a .pending ≤ 1725
@@ -68,7 +79,36 @@ numbers-say a e =
 
 pub ranged : (a : Audio) → inRange a ≡ true → Ranged a
 unfolding inRange
-ranged a = by-test (λ t. t ≡ true → Ranged a) (numbersOk a) _ _ (λ h _. numbers-say a h) (λ _ e. absurd (subst T (sym e) tt))
+ranged a = by-test (λ t. t ≡ true → Ranged a) (numbersOk a) _ _ (λ h. numbers-say a h) (λ _ e. absurd (subst T (sym e) tt))
+
+if-then : (a b : Bool) → (a ≡ true → b ≡ true) → (not a || b) ≡ true
+if-then true b f = f refl
+if-then false b f = refl
+
+or-else : (a b : Bool) → (a ≡ false → b ≡ true) → (a || b) ≡ true
+or-else true b f = refl
+or-else false b f = f refl
+
+-- and the other way round: all that together puts a state in range
+pub in-range : (a : Audio) → Ranged a → inRange a ≡ true
+unfolding inRange numbersOk
+in-range a r =
+    simp (
+      le-leb _ _ (r .near),
+      le-leb _ _ (r .few),
+      le-leb _ _ (r .samplerate),
+      le-leb _ _ (r .bitrate),
+      le-leb _ _ (r .mode),
+      le-leb _ _ (r .bound),
+      eq-eqb _ _ (r .place .whole),
+      lt-ltb _ _ (r .place .below),
+      if-then (eqb (a .format .mode) 3) (eqb (a .format .bound) 0) (λ h. eq-eqb _ _ (r .mono (eqb-true _ _ h))),
+      or-else (eqb (a .pending) 0) (leb 90 (a .pending) && leb (a .pending) 1725)
+          (λ h. simp (le-leb _ _ (r .large (eqb-false _ _ h)), le-leb _ _ (r .small))),
+      if-then (eqb (a .format .samplerate) 3) (eqb (a .frames) 0 && eqb (a .pending) 0)
+          (λ h. simp (eq-eqb _ _ (r .first (eqb-true _ _ h)), eq-eqb _ _ (r .known (eqb-true _ _ h)))),
+    )
+    (r .time)
 
 -- ---- a header, pending or sought
 
@@ -88,7 +128,7 @@ pub record Pended (a b : Audio) : Type 0 where
   pub frames : b .frames ≡ a .frames
   pub ring : b .ring ≡ a .ring
 
-seeking-good : (a : Audio) (r : Reader) (h : Header) → GoodHeader h → When (Pended a) (seeking a r h)
+seeking-good : (a : Audio) (r : Reader) (h : Header) → GoodHeader (a .format) h → When (Pended a) (seeking a r h)
 unfolding When
 seeking-good a r (Accepted f n) g =
     λ _. record {

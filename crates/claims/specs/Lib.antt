@@ -3,6 +3,14 @@ pub mod Untouched
 pub mod Accepted
 pub mod Ring
 pub mod Finite
+pub mod Tables
+pub mod Pairs
+pub mod Attempts
+pub mod Least
+pub mod Sound
+pub mod Numbers
+pub mod Settled
+pub mod Occur
 pub mod Extension
 pub mod RingOut
 pub mod Widths

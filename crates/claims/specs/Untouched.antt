@@ -32,6 +32,10 @@ module _ (s : List ℕ) (memory output : List Float) (a : Audio) where
   refused-call-leaves-all n e =
       let r = readyOf s (length memory) (length output) a in by-verdict (r .answer) (r .state) n e
 
+pub blank-length : length blank ≡ 2048
+unfolding blank
+blank-length = length-table 2048 (λ _. fin false 0 (pos 0))
+
 -- an opening that gives 8 or 9 leaves the memory
 module _ (s : List ℕ) (memory : List Float) where
   pub too-long-opening-leaves-memory : 16777216 < length s → openMemory s memory ≡ memory
@@ -48,18 +52,14 @@ module _ (s : List ℕ) (memory : List Float) where
     unfolding openMemory
     opened = simp (le-ltb _ _ short, le-ltb _ _ long)
 
-    many : length blank ≡ 2048
-    unfolding blank
-    many = length-table 2048 (λ _. fin false 0 (pos 0))
-
     pub opening-clears : (i : ℕ) → i < 2048 → getD (openMemory s memory) i nan ≡ fin false 0 (pos 0)
     unfolding blank
     opening-clears i l =
-        rw opened (List·getD-append blank (drop 2048 memory) nan i (rw many l) ∙ at-table nan 2048 (λ _. fin false 0 (pos 0)) i l)
+        rw opened (List·getD-append blank (drop 2048 memory) nan i (rw blank-length l) ∙ at-table nan 2048 (λ _. fin false 0 (pos 0)) i l)
 
     pub opening-keeps-the-rest : (i : ℕ) → getD (openMemory s memory) (2048 + i) nan ≡ getD memory (2048 + i) nan
     opening-keeps-the-rest i =
         rw opened
-        (ap (λ (k : ℕ). getD (blank ++ drop 2048 memory) (k + i) nan) (sym many)
+        (ap (λ (k : ℕ). getD (blank ++ drop 2048 memory) (k + i) nan) (sym blank-length)
         ∙ getD-append-add blank (drop 2048 memory) i nan
         ∙ getD-drop 2048 memory i nan)

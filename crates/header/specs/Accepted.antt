@@ -1,12 +1,12 @@
 -- What an accepted header holds, whatever the stream: ranges of its format, and a data size of 90 to 1,725 (01's state in range).
 -- Assumes nothing.
 use Prim.Native.Nat.{ℕ, _+_, _-_, _*_, _/_, _≤_, _<_, _^_}
-use mathlib.Core.Path.{_≡_, refl}
-use mathlib.Core.Bool.{Bool, true, false, _&&_, _||_}
+use mathlib.Core.Path.{_≡_, refl, sym}
+use mathlib.Core.Bool.{Bool, true, false, not, _&&_, _||_}
 use mathlib.Core.List.{List}
 use native.Mathlib.Omega.{arith}
 use lib.Dec.{T, eqb, leb, leb→le}
-use borrow.Author.Tests.{eqb-true, eqb-false}
+use borrow.Author.Tests.{eqb-true, eqb-false, ne-eqb, not-false}
 use Rattle.ground.specs.Tests.{by-test, neither}
 use Rattle.ground.specs.Upto.{below2, and-left, and-right}
 use Rattle.buffer.specs.declared.Reader.{Reader}
@@ -80,69 +80,101 @@ unfolding checkOf Always
 any-check true = λ _ _. tt
 any-check false = tt
 
--- a bound of at most 32, which is 0 in mono
-abbrev Bounded : ℕ → ℕ → Type 0
-Bounded mode bound = (bound ≤ 32) × (mode ≡ 3 → bound ≡ 0)
+-- the bound of some mode extension, a field of 2 bits
+abbrev pub Extended : ℕ → ℕ → Type 0
+Extended mode bound = (e : ℕ) × (e < 4) × (bound ≡ boundBy mode e)
 
-bound-small : (mode : ℕ) (check : Bool) → Always (Bounded mode) (boundOf mode check)
+bound-extended : (mode : ℕ) (check : Bool) → Always (Extended mode) (boundOf mode check)
 unfolding boundOf Always
-bound-small mode check =
-    λ e k. λ _ _. always-bind (λ _. Unit) (Bounded mode) (checkOf check) _ (any-check check)
-    (λ _ _. by-test (Bounded mode) (eqb mode 1) _ _ (λ t. (four e k, λ h. other mode _ (eqb-true mode 1 t) h))
-    (λ _. by-test (Bounded mode) (eqb mode 3) _ _ (λ _. (omega arith, λ _. refl)) (λ t. (omega arith, λ h. absurd (eqb-false mode 3 t h)))))
-  where
-    four : (e : ℕ) → e < 2 ^ 2 → 4 * (e + 1) ≤ 32
-    four e k = omega arith
+bound-extended mode check =
+    λ e k. λ _ _. always-bind (λ _. Unit) (Extended mode) (checkOf check) _ (any-check check) (λ _ _. (e, k, refl))
 
-    other : (m n : ℕ) → m ≡ 1 → m ≡ 3 → n ≡ 0
-    other m n p q = omega arith
+-- so it is at most 32, and 0 in mono
+bound-small : (mode e : ℕ) → e < 4 → (boundBy mode e ≤ 32) × (mode ≡ 3 → boundBy mode e ≡ 0)
+bound-small mode e k =
+    by-test B (eqb mode 1) _ _ (λ t. (omega arith, λ h. other (eqb-true mode 1 t) h))
+    (λ _. by-test B (eqb mode 3) _ _ (λ _. (omega arith, λ _. refl)) (λ t. (omega arith, λ h. absurd (eqb-false mode 3 t h))))
+  where
+    B : ℕ → Type 0
+    B bound = (bound ≤ 32) × (mode ≡ 3 → bound ≡ 0)
+
+    other : mode ≡ 1 → mode ≡ 3 → 4 * (e + 1) ≡ 0
+    other p q = omega arith
+
+-- 01's 6 the other way round: where a header was accepted earlier, the new one has its bit rate, sample rate and mode
+pub record Same (known f : Format) : Type 0 where
+  pub bitrate : f .bitrate ≡ known .bitrate
+  pub samplerate : f .samplerate ≡ known .samplerate
+  pub mode : f .mode ≡ known .mode
+
+pub same-format : (known f : Format) → differs known (f .bitrate) (f .samplerate) (f .mode) ≡ false → (known .samplerate ≡ 3 → ⊥) → Same known f
+same-format known f d n =
+    let x = neither (not (eqb (known .bitrate) (f .bitrate)) || not (eqb (known .samplerate) (f .samplerate))) _ (rw (ne-eqb _ _ n) at d) in
+    let y = neither (not (eqb (known .bitrate) (f .bitrate))) _ (x .0) in
+    record { bitrate = is _ _ (y .0); samplerate = is _ _ (y .1); mode = is _ _ (x .1) }
+  where
+    is : (m n : ℕ) → not (eqb m n) ≡ false → n ≡ m
+    is m n e = sym (eqb-true m n (not-false _ e))
 
 -- 01's ranges of a format and a data size
-pub record Good (f : Format) (size : ℕ) : Type 0 where
+pub record Good (known f : Format) (size : ℕ) : Type 0 where
   pub samplerate : f .samplerate < 3
   pub bitrate : f .bitrate < 14
   pub mode : f .mode < 4
   pub bound : f .bound ≤ 32
   pub mono : f .mode ≡ 3 → f .bound ≡ 0
+  pub extension : Extended (f .mode) (f .bound)
+  pub same : (known .samplerate ≡ 3 → ⊥) → Same known f
   pub least : 90 ≤ size
   pub most : size ≤ 1725
 
-abbrev pub GoodHeader : Header → Type 0
-GoodHeader (Accepted f size) = Good f size
-GoodHeader (Refused n) = Unit
+abbrev pub GoodHeader : Format → Header → Type 0
+GoodHeader known (Accepted f size) = Good known f size
+GoodHeader known (Refused n) = Unit
 
-rest-good : (known : Format) (check : Bool) (b f p : ℕ) → b < 14 → f < 3 → p < 2 → Always GoodHeader (restOf known check b f p)
+rest-good : (known : Format) (check : Bool) (b f p : ℕ) → b < 14 → f < 3 → p < 2 → Always (GoodHeader known) (restOf known check b f p)
 unfolding restOf Always
 rest-good known check b f p l m n =
-    always-bind (λ mode. mode < 4) GoodHeader modeOf _ mode-small
-    (λ mode k. by-test (Always GoodHeader) (differs known b f mode) _ _ (λ _. tt)
-    (λ _. always-bind (Bounded mode) GoodHeader (boundOf mode check) _ (bound-small mode check)
+    always-bind (λ mode. mode < 4) (GoodHeader known) modeOf _ mode-small
+    (λ mode k. by-test (Always (GoodHeader known)) (differs known b f mode) _ _ (λ _. tt)
+    (λ d. always-bind (Extended mode) (GoodHeader known) (boundOf mode check) _ (bound-extended mode check)
     (λ bound h.
     let z = size-fits b f p check l m n in
-    record { samplerate = m; bitrate = l; mode = k; bound = h .0; mono = h .1; least = z .0; most = z .1 })))
+    let y = bound-small mode (h .0) (h .1) in
+    record {
+      samplerate = m;
+      bitrate = l;
+      mode = k;
+      bound = rw (h .2) (y .0);
+      mono = rw (h .2) (y .1);
+      extension = h;
+      same = same-format known _ d;
+      least = z .0;
+      most = z .1;
+    })))
 
-rates-good : (known : Format) (check : Bool) (r : Rates) → Rated r → Always GoodHeader (byRates known check r)
+rates-good : (known : Format) (check : Bool) (r : Rates) → Rated r → Always (GoodHeader known) (byRates known check r)
 unfolding Always
 rates-good known check (Known b f p) h = rest-good known check b f p (h .0) (h .1) (h .2)
 rates-good known check (RatesRefused n) h = tt
 
-ident-good : (known : Format) (i : Ident) → Always GoodHeader (byIdent known i)
+ident-good : (known : Format) (i : Ident) → Always (GoodHeader known) (byIdent known i)
 unfolding Always
-ident-good known (LayerII check) = always-bind Rated GoodHeader ratesOf _ rates-known (rates-good known check)
+ident-good known (LayerII check) = always-bind Rated (GoodHeader known) ratesOf _ rates-known (rates-good known check)
 ident-good known (IdentRefused n) = tt
 
 any-ident : Always (λ _. Unit) identOf
 unfolding identOf Always
 any-ident = λ _ _. λ _ _. λ _ _. tt
 
-fields-good : (known : Format) → Always GoodHeader (fieldsOf known)
+fields-good : (known : Format) → Always (GoodHeader known) (fieldsOf known)
 unfolding fieldsOf
-fields-good known = always-bind (λ _. Unit) GoodHeader identOf _ any-ident (λ i _. ident-good known i)
+fields-good known = always-bind (λ _. Unit) (GoodHeader known) identOf _ any-ident (λ i _. ident-good known i)
 
-start-good : (s : List ℕ) (known : Format) (x : Start) → GoodHeader (byStart s known x .header)
-start-good s known (At r) = always-run GoodHeader (fieldsOf known) s r (fields-good known)
+start-good : (s : List ℕ) (known : Format) (x : Start) → GoodHeader known (byStart s known x .header)
+start-good s known (At r) = always-run (GoodHeader known) (fieldsOf known) s r (fields-good known)
 start-good s known (StartRefused n r) = tt
 
-pub header-good : (s : List ℕ) (r : Reader) (known : Format) → GoodHeader (headerOf s r known .header)
+pub header-good : (s : List ℕ) (r : Reader) (known : Format) → GoodHeader known (headerOf s r known .header)
 unfolding headerOf
 header-good s r known = start-good s known (startOf s r)

@@ -1,0 +1,105 @@
+-- The promises' premises can be met: each number of decode's table occurs, on small streams and states, computed; calls are lent
+-- enough; and there are pasts. Assumes nothing.
+use Prim.Native.Nat.{ℕ, _<_}
+use mathlib.Core.Path.{_≡_, refl}
+use mathlib.Core.Bool.{false}
+use mathlib.Core.List.{List, [], _∷_, _++_}
+use native.Mathlib.Omega.{arith}
+use lib.IntN.{pos}
+use lib.Ieee.{Float, fin, isNan, toBits, div, ofInt, round, units, odd, size}
+use lib.ListN.{length, replicate}
+use borrow.Author.Tests.{lt-ltb}
+use Rattle.ground.specs.First.{firstFrom}
+use Rattle.ground.specs.Table.{table, length-table}
+use Rattle.buffer.specs.Bits.{bitAt, bitsValue}
+use Rattle.buffer.specs.Calls.{readerAt, readOf, fieldOf, hasOf, skipBytesOf, searchOf}
+use Rattle.grammar.specs.Reads.{_>>=_, run}
+use Rattle.header.specs.Header.{headerOf, startOf, syncOf, seekOf, fieldsOf, identOf, ratesOf, restOf, modeOf, boundOf, checkOf, sizeOf}
+use Rattle.clock.specs.Clock.{startOf as timeOf, sameBits, onTime}
+use Rattle.audio.specs.State.{fresh, numbersOk, inRange}
+use Rattle.audio.specs.Before.{attemptOf, headedOf, enoughOf, readyOf}
+use Rattle.audio.specs.Calls.{answering, afterOf, framedOf, decodeOf, openOf, openMemory}
+use Rattle.audio.specs.Numbers.{headingNumber, answerNumber}
+use Rattle.audio.specs.declared.Audio.{Audio}
+use Rattle.audio.specs.declared.Heading.{Heading}
+use Rattle.audio.specs.declared.Heading.the-variants.{Known, Refused}
+use Rattle.claims.specs.Numbers.{Lent}
+use Rattle.claims.specs.Pasts.{Past, opened}
+
+-- decode's number goes by the verdict, and so by the lengths of memory and output only
+abbrev pub verdict : List ℕ → ℕ → ℕ → Audio → ℕ
+verdict s memory output a = headingNumber (readyOf s memory output a .answer)
+
+pub number-by-verdict : (s : List ℕ) (memory output : List Float) (a : Audio)
+    → answerNumber (decodeOf s memory output a .answer) ≡ headingNumber (readyOf s (length memory) (length output) a .answer)
+unfolding decodeOf framedOf afterOf
+number-by-verdict s memory output a = let r = readyOf s (length memory) (length output) a in go (r .answer) (r .state)
+  where
+    go : (h : Heading) (b : Audio) → answerNumber (answering s h b .answer) ≡ headingNumber h
+    go Known b = refl
+    go (Refused n) b = refl
+
+-- a state whose clip began at 32 kbps, 44,100 Hz, in stereo; and one with the ring between two slots
+abbrev pub begun : Audio
+begun =
+    record {
+      reader = readerAt 0;
+      format = record { samplerate = 0; bitrate = 0; mode = 0; bound = 32 };
+      frames = 0;
+      pending = 0;
+      ring = 0;
+      time = fin false 0 (pos 0);
+    }
+
+abbrev pub broken : Audio
+broken = record { reader = readerAt 0; format = begun .format; frames = 0; pending = 0; ring = 32; time = fin false 0 (pos 0) }
+
+-- 192 kbps, 44,100 Hz, stereo
+abbrev pub header : List ℕ
+header = 0xFF ∷ 0xFD ∷ 0xA0 ∷ 0x00 ∷ []
+
+pub numbers-occur : verdict (header ++ replicate 622 0) 2048 2304 fresh
+    ∷ verdict [] 2048 2304 fresh
+    ∷ verdict (1 ∷ replicate 5 0) 2048 2304 fresh
+    ∷ verdict (0xFF ∷ 0xFB ∷ replicate 4 0) 2048 2304 fresh
+    ∷ verdict (0xFF ∷ 0xFD ∷ replicate 4 0) 2048 2304 fresh
+    ∷ verdict (0xFF ∷ 0xFD ∷ 0xAC ∷ replicate 3 0) 2048 2304 fresh
+    ∷ verdict (header ++ replicate 2 0) 2048 2304 begun
+    ∷ verdict (header ++ replicate 2 0) 2048 2304 fresh
+    ∷ verdict [] 2047 2304 fresh
+    ∷ verdict [] 2048 2304 broken
+    ∷ []
+    ≡ 0 ∷ 1 ∷ 2 ∷ 3 ∷ 4 ∷ 5 ∷ 6 ∷ 7 ∷ 9 ∷ 10 ∷ []
+unfolding readyOf headedOf attemptOf enoughOf fresh inRange numbersOk onTime sameBits timeOf isNan toBits div ofInt round units odd size headerOf startOf syncOf seekOf searchOf hasOf skipBytesOf fieldOf readOf bitsValue bitAt firstFrom run _>>=_ fieldsOf identOf ratesOf restOf modeOf boundOf checkOf sizeOf
+numbers-occur = refl
+
+-- one byte too many
+unfoldable pub long : List ℕ
+long = table 16777217 (λ _. 0)
+
+long-length : length long ≡ 16777217
+unfolding long
+long-length = length-table 16777217 (λ _. 0)
+
+pub eight-occurs : (memory output : ℕ) (a : Audio) → verdict long memory output a ≡ 8
+unfolding readyOf
+eight-occurs memory output a = simp (lt-ltb 16777216 (length long) many)
+  where
+    many : 16777216 < length long
+    many = omega (arith, long-length)
+
+-- ---- a call that is lent enough, and a past
+
+abbrev pub quiet : ℕ → List Float
+quiet n = table n (λ _. fin false 0 (pos 0))
+
+pub enough-lent : Lent [] (quiet 2048) (quiet 2304)
+enough-lent =
+    record {
+      short = omega arith;
+      memory-long = omega (arith, length-table 2048 (λ (_ : ℕ). fin false 0 (pos 0)));
+      output-long = omega (arith, length-table 2304 (λ (_ : ℕ). fin false 0 (pos 0)));
+    }
+
+pub a-past : Past (openOf [] (quiet 2048) .state) (openMemory [] (quiet 2048))
+a-past = opened [] (quiet 2048) (enough-lent .short) (enough-lent .memory-long)
