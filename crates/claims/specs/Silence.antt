@@ -10,7 +10,7 @@ use native.Mathlib.Omega.{arith}
 use borrow.Author.Tests.{le-ltb}
 use lib.Dec.{T, lit<, lit≤}
 use lib.IntN.{ℤ, pos}
-use lib.Ieee.{Float, nan, inf, fin, binary32, up, down, round, unlike, add, sub, mul, div, neg, sum, ofInt, ofBits, toBits}
+use lib.Ieee.{Float, nan, inf, fin, binary32, up, down, round, unlike, add, sub, mul, div, neg, eq, ofInt, ofBits, toBits}
 use lib.Ieee.Fits.{down-pos}
 use lib.Ieee.Scale.{round-same}
 use lib.ListN.{length, getD, take, drop, replicate, getD-replicate}
@@ -49,3 +49,25 @@ silence = replicate 12 (replicate 192 (pos 0))
 read-silence : granulesAt zeros (readerAt 32) (headed .format) .value ≡ silence
 unfolding granulesAt codesIn run _>>=_ frameOf sideOf bands pairOf allocationOf allocationBandOf channelsOf selectorOf factorsOf placeOf copied sampleBandOf granuleOf granulesOf fieldOf readOf bitsValue bitAt tableOf limitOf chosen serves sblimit rowsOf rowOf widthOf quantiserOf
 read-silence = refl
+
+-- a part of a list of one value
+part : {A : Type 0} (x : A) (front n all : ℕ) → front + n ≤ all → take n (drop front (replicate all x)) ≡ replicate n x
+part x zero zero all h = refl
+part x zero (suc n) zero h = absurd (omega arith)
+part x zero (suc n) (suc all) h = ap (λ l. x ∷ l) (part x zero n all (omega arith))
+part x (suc front) n zero h = absurd (omega arith)
+part x (suc front) n (suc all) h = part x front n all (omega arith)
+
+slots-silent : (channel n : ℕ) → channel < 2 → n < 36 → slotsOf silence channel n ≡ replicate 32 (pos 0)
+unfolding samplesOf
+slots-silent channel n two l =
+    rw (getD-replicate 12 (n / 3) (replicate 192 (pos 0)) [] (omega arith)) (part (pos 0) (64 * (n % 3) + 32 * channel) 32 192 (omega arith))
+
+-- ---- which become zeros of either sign: +0.0 and −0.0 are those that compare equal to +0.0
+
+abbrev Zero : Float → Type 0
+Zero x = T (eq x nought)
+
+silent-slot : Written Zero (replicate 32 (pos 0))
+unfolding Written idct floats transform sumsOf differencesOf wovenOf slotOf rowFactors table eq ofInt ofBits add sub mul neg
+silent-slot = below (λ (i : ℕ). eq (getD (idct (replicate 32 (pos 0))) i nan) nought) 64 tt
