@@ -2,7 +2,7 @@
 -- 80000000)." Nothing is allocated, so every ring value is a zero of either sign; +0.0 and sixteen products with such a zero are +0.0,
 -- and the division by a negative number makes it −0.0. Assumes nothing.
 use Prim.Native.Nat.{ℕ, zero, suc, _+_, _-_, _*_, _/_, _%_, _≤_, _<_}
-use mathlib.Core.Path.{_≡_, refl, sym, ap, _∙_, subst}
+use mathlib.Core.Path.{_≡_, refl, ap, _∙_}
 use mathlib.Core.Bool.{Bool, true, false, Bool·beq, _||_}
 use mathlib.Core.List.{List, [], _∷_}
 use native.Mathlib.Nat.{zero-add, mul-zero, mul-pos}
@@ -28,9 +28,9 @@ use Rattle.codes.specs.Frame.{placeOf, copied, sampleBandOf, granuleOf, granule
 use Rattle.codes.specs.Rows.{zeros}
 use Rattle.transform.specs.Transform.{idct, floats, transform, sumsOf, differencesOf, wovenOf, slotOf, factorsOf as rowFactors}
 use Rattle.window.specs.Window.{windowAt}
-use Rattle.window.specs.Output.{Place, nought, divisor, taps, outputOf}
+use Rattle.window.specs.Output.{nought, taps, outputOf}
 use Rattle.synthesis.specs.Slots.{samplesOf}
-use Rattle.finite.specs.Within.{Within, Factor, factorb, factor-by}
+use Rattle.finite.specs.Within.{Factor}
 use Rattle.finite.specs.Sums.{weightAt, entry-factor}
 use Rattle.finite.specs.Each.{Each, Both, Written, Summed, each-output}
 use Rattle.frame.specs.Frame.{codesIn, granulesAt, slotsOf}
@@ -87,9 +87,9 @@ plus-nothing false = refl
 plus-product : (b g : ℕ) (x y : Float) → Factor b g x → Zero y → add binary32 nought (mul binary32 x y) ≡ nought
 unfolding mul eq
 plus-product b g (fin s m e) (fin t n d) h z =
-    let a = n * up d * 1 in
-    let b = 0 * 1 * down d in
-    let none : n * up d ≡ 0 = omega (arith, eqb→eq a b (and-left (eqb a b) (Bool·beq t false || eqb a 0) z)) in
+    let u = n * up d * 1 in
+    let v = 0 * 1 * down d in
+    let none : n * up d ≡ 0 = omega (arith, eqb→eq u v (and-left (eqb u v) (Bool·beq t false || eqb u 0) z)) in
     ap (add binary32 nought) (nothing (unlike s t) (m * up e * (n * up d)) (down e * down d) (mul-pos (down-pos e) (down-pos d)) (rw none (mul-zero (m * up e))))
     ∙ plus-nothing (unlike s t)
 plus-product b g nan y h z = absurd h

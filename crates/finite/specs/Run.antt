@@ -1,13 +1,12 @@
 -- Since the memory was cleared, through any slots whose samples are as the codes make them: every ring value is finite and at most 2 ^ 36,
 -- and every output is finite and at most 8,259,553, so below 16,777,216. So no NaN is there, and equal values are equal bits.
 -- From 01, "From samples to sound". Assumes nothing.
-use mathlib.Core.List.{List, _++_}
+use mathlib.Core.List.{List}
 use Prim.Native.Nat.{ℕ, _+_, _*_, _^_, _≤_, _<_}
-use lib.Dec.{lit≤}
 use lib.IntN.{ℤ}
-use lib.ListN.{getD, length, replicate}
+use lib.ListN.{getD, length}
 use lib.Ieee.{Float, nan}
-use Rattle.window.specs.Output.{Place, nought}
+use Rattle.window.specs.Output.{Place}
 use Rattle.synthesis.specs.Slots.{memoryAfter, outputAfter}
 use Rattle.finite.specs.Within.{Within}
 use Rattle.finite.specs.Halving.{Quiet, idct-within}
