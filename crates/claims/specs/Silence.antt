@@ -97,14 +97,14 @@ plus-product b g (inf s) y h z = absurd h
 plus-product b g (fin s m e) nan h z = absurd z
 plus-product b g (fin s m e) (inf t) h z = absurd z
 
-module _ (ring : List Float) (zeros : Each Zero ring) where
+module _ (ring : List Float) (silent : Each Zero ring) where
   taps-silent : (w r : ℕ) → r < 128 → (k : ℕ) → k ≤ 8 → taps ring w r k nought ≡ nought
   unfolding taps Each
   taps-silent w r hr zero hk = refl
   taps-silent w r hr (suc k) hk =
       let j = (w + 64 * k) % 512 in
       rw (taps-silent w r hr k (omega arith))
-      (plus-product (weightAt j) 2 (windowAt j) (getD ring (r + 128 * k) nan) (entry-factor j (omega arith)) (zeros (r + 128 * k) (omega arith)))
+      (plus-product (weightAt j) 2 (windowAt j) (getD ring (r + 128 * k) nan) (entry-factor j (omega arith)) (silent (r + 128 * k) (omega arith)))
 
   -- which the division makes −0.0
   silent-sums : Summed (λ x. x ≡ fin true 0 (pos 0)) ring

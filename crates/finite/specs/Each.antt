@@ -31,7 +31,7 @@ Written P samples = (i : ℕ) → i < 64 → P (getD (idct samples) i nan)
 unfoldable pub Summed : (Float → Type 0) → List Float → Type 0
 Summed Q ring = (p j : ℕ) → Place p → j < 32 → Q (outputOf ring p j)
 
--- n values of +0.0, over a variable, so that 2,048 of them are not written out
+-- n values of +0.0, n being a variable, so that 2,048 of them are not written out
 zeros-at : (n i : ℕ) (more : List Float) → i < n → getD (replicate n nought ++ more) i nan ≡ nought
 zeros-at n i more h =
     List·getD-append (replicate n nought) more nan i (omega (arith, length-replicate n nought)) ∙ getD-replicate n i nought nan h
@@ -40,7 +40,7 @@ module _ (P : Float → Type 0) where
   move : {a b : Float} → a ≡ b → P b → P a
   move e h = subst P (sym e) h
 
-  -- of a cleared memory's
+  -- so each value of a cleared memory has what +0.0 has
   pub each-cleared : P nought → (n : ℕ) (more : List Float) → 2048 ≤ n → Both P (replicate n nought ++ more)
   unfolding leftOf rightOf Each
   each-cleared z n more h = record { left = half 0 (omega arith); right = half 1024 (omega arith) }
