@@ -31,7 +31,7 @@ use Rattle.claims.specs.Widths.{bits-are-the-widths}
 use Rattle.claims.specs.RingOut.{Agreeing, rings-out}
 
 -- the state after the header
-abbrev headed : Audio
+abbrev pub headed : Audio
 headed =
     record {
       reader = readerAt 32;
@@ -55,11 +55,11 @@ unfolding codesIn
 headed-calls = row-188
 
 -- a decoder opened on it with any memory, lent any output
-abbrev opening : List Float → List Float → Call
+abbrev pub opening : List Float → List Float → Call
 opening m o = record { stream = zeros; memory = openMemory zeros m; output = o; state = openOf zeros m .state }
 
 module _ (m o : List Float) (long : 2048 ≤ length m) (room : 2304 ≤ length o) where
-  opened-on-zeros : Past (opening m o .state) (opening m o .memory)
+  pub opened-on-zeros : Past (opening m o .state) (opening m o .memory)
   opened-on-zeros = opened zeros m (lit≤ tt) long
 
   at-header : opening m o .state ≡ headed
@@ -75,7 +75,7 @@ module _ (m o : List Float) (long : 2048 ≤ length m) (room : 2304 ≤ length o
   zeros-accepted =
       record { time = fin false 0 (pos 0); bits = granulesAt zeros (readerAt 32) (headed .format) .next .at .0 - 32; answer = rw before-zeros }
 
-  frame-state : frameState (opening m o) ≡ headed
+  pub frame-state : frameState (opening m o) ≡ headed
   frame-state = ap (λ (x : Asked). x .state) before-zeros
 
   calls-188 : bitsCalled (opening m o) ≡ 188

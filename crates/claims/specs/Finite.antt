@@ -7,7 +7,7 @@ use mathlib.Core.List.{List, [], _∷_, _++_}
 use native.Mathlib.Nat.{zero-add}
 use native.Mathlib.Omega.{arith}
 use native.Mathlib.Decide.{decLt}
-use lib.Dec.{T}
+use lib.Dec.{T, lit≤}
 use lib.IntN.{ℤ, pos}
 use lib.Ieee.{Float, nan, inf, fin, binary32, isNan, ofBits, toBits}
 use lib.Ieee.Bits.{toBits-ofBits}
@@ -24,7 +24,8 @@ use Rattle.window.specs.Output.{nought}
 use Rattle.synthesis.specs.Slots.{leftOf, rightOf, samplesOf}
 use Rattle.finite.specs.Within.{Within}
 use Rattle.finite.specs.Halving.{Quiet}
-use Rattle.finite.specs.Run.{Hushed, Calm, cleared-calm, calm-after, output-within}
+use Rattle.finite.specs.Each.{Each, Both, each-cleared}
+use Rattle.finite.specs.Run.{Calm, calm-after, output-within}
 use Rattle.frame.specs.Frame.{codesIn, granulesAt, slotsOf, memoryOf}
 use Rattle.frame.proofs.Twelve.{granules-many}
 use Rattle.audio.specs.Calls.{framedMemory, blank}
@@ -72,9 +73,10 @@ unfolding table
 zeros zero = refl
 zeros (suc n) = ap (λ (l : List Float). nought ∷ l) (zeros n)
 
-opened-calm : (more : List Float) → Calm (blank ++ more)
+-- what holds of +0.0 holds of each value of a memory just opened
+pub opened-each : (P : Float → Type 0) → P nought → (more : List Float) → Both P (blank ++ more)
 unfolding blank
-opened-calm more = subst (λ (l : List Float). Calm (l ++ more)) (sym (zeros 2048)) (cleared-calm 2048 more (omega arith))
+opened-each P z more = subst (λ (l : List Float). Both P (l ++ more)) (sym (zeros 2048)) (each-cleared P z 2048 more (omega arith))
 
 framed-calm : (s : List ℕ) (b : Audio) (m : List Float) → Ready s b → 2048 ≤ length m → Calm m → Calm (framedMemory s b m)
 unfolding framedMemory memoryOf
@@ -82,11 +84,11 @@ framed-calm s b m ready long calm =
     calm-after (slotsOf (granulesAt s (b .reader) (b .format) .value)) (ready .place) m long calm 36 (frame-quiet s (b .reader) (b .format))
 
 calm-since : {a : Audio} {m : List Float} → Past a m → Calm m
-calm-since = since-opening (λ _ _ m. Calm m) (λ m _. opened-calm (drop 2048 m)) framed-calm
+calm-since = since-opening (λ _ _ m. Calm m) (λ m _. opened-each (Within (2 ^ 36)) (lit≤ tt) (drop 2048 m)) framed-calm
 
 -- every ring value is finite, and at most 2 ^ 36
 pub memory-finite : {a : Audio} {m : List Float} → Past a m → (i : ℕ) → i < 2048 → Within (2 ^ 36) (getD m i nan)
-unfolding Hushed leftOf rightOf
+unfolding Each leftOf rightOf
 memory-finite {a} {m} p i l = go (decLt i 1024)
   where
     up : ¬ (i < 1024) → 1024 + (i - 1024) ≡ i

@@ -17,4 +17,5 @@ pub mod Widths
 pub mod Standard
 pub mod Same
 pub mod Example
+pub mod Silence
 pub mod Rows

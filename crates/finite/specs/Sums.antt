@@ -38,10 +38,10 @@ unfolding standardD
 count = refl
 
 -- twice the magnitude of the window's entry i
-weightAt : ℕ → ℕ
+pub weightAt : ℕ → ℕ
 weightAt i = natAbs (getD standardD i (pos 0))
 
-entry-factor : (i : ℕ) → i < 512 → Factor (weightAt i) 2 (windowAt i)
+pub entry-factor : (i : ℕ) → i < 512 → Factor (weightAt i) 2 (windowAt i)
 unfolding windowAt windowList weightAt
 entry-factor i h = halves-at standardD halves-test i (omega (arith, count))
 
