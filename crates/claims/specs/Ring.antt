@@ -3,14 +3,11 @@
 -- memory stays long enough. Assumes nothing.
 use Prim.Native.Nat.{ℕ, zero, suc, _+_, _-_, _*_, _%_, _≤_, _<_}
 use mathlib.Core.Path.{_≡_, refl, ap, _∙_}
-use mathlib.Core.Bool.{false}
 use mathlib.Core.List.{List, _++_}
 use native.Mathlib.Omega.{arith}
-use lib.IntN.{pos}
-use lib.Ieee.{Float, fin}
+use lib.Ieee.{Float}
 use lib.ListN.{length, drop, length-append, length-drop}
 use borrow.Author.Tests.{le-ltb}
-use Rattle.ground.specs.Table.{length-table}
 use Rattle.window.specs.Output.{Place}
 use Rattle.synthesis.specs.Slots.{positionAfter}
 use Rattle.synthesis.specs.Ring.{place-after, position-frame}
@@ -23,6 +20,7 @@ use Rattle.audio.specs.declared.Audio.{Audio}
 use Rattle.audio.specs.declared.Heading.{Heading}
 use Rattle.audio.specs.declared.Heading.the-variants.{Known, Refused}
 use Rattle.claims.specs.Pasts.{Past, opened, asked, rated, decoded, refused}
+use Rattle.claims.specs.Untouched.{blank-length}
 use Rattle.claims.specs.Accepted.{Stays, attempt-keeps, has-header-keeps, Call, outcome, newMemory, before, frameState, before-keeps, known-leaves, short-keeps}
 
 -- ---- what an opening gives, and each decoded frame hands on, holds since opening
@@ -84,9 +82,7 @@ home-next n =
     go (suc (suc (suc (suc r)))) l = absurd (omega arith)
 
 opened-long : (m : List Float) → 2048 ≤ length m → length (blank ++ drop 2048 m) ≡ length m
-unfolding blank
-opened-long m long =
-    length-append blank (drop 2048 m) ∙ simp (length-table 2048 (λ _. fin false 0 (pos 0)), length-drop) (omega arith)
+opened-long m long = length-append blank (drop 2048 m) ∙ simp (blank-length, length-drop) (omega arith)
 
 framed-long : (s : List ℕ) (b : Audio) (m : List Float) → Ready s b → 2048 ≤ length m → length (framedMemory s b m) ≡ length m
 unfolding framedMemory memoryOf

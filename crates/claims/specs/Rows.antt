@@ -1,6 +1,6 @@
 -- 01's table of proved examples: the thirteen rows as one list, with one claim. What is given stands in `rows`, what is got in `got`.
 -- Assumes nothing.
-use Prim.Native.Nat.{ℕ, _*_, _+_}
+use Prim.Native.Nat.{ℕ, _+_}
 use mathlib.Core.Path.{_≡_, ap₂}
 use mathlib.Core.List.{List, [], _∷_, _++_, map}
 use lib.IntN.{ℤ, pos, negsuc}

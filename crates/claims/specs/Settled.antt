@@ -1,6 +1,6 @@
 -- Calls on one stream come to rest. 01, "Numbers a call can give": "on the same stream 1 and 7 repeat for ever"; "From the bytes to
 -- a header": "on n bytes at most n/2 + 1 decode calls come before all answer 1 or 7". Assumes nothing.
-use Prim.Native.Nat.{ℕ, zero, suc, _+_, _*_, _/_, _≤_, _<_}
+use Prim.Native.Nat.{ℕ, zero, suc, _+_, _*_, _/_, _≤_}
 use mathlib.Core.Path.{_≡_, refl, sym, ap, subst, _∙_}
 use mathlib.Core.Bool.{true}
 use mathlib.Core.List.{List}

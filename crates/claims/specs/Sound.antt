@@ -1,7 +1,7 @@
 -- A state in range stays in range through every call, so a decoder since its opening never meets 10; and what more its states hold:
--- ring position and start time by the count of frames. From 01, "Numbers a call can give" (State in range) and "From samples to
--- sound" (the ring position). Assumes nothing.
-use Prim.Native.Nat.{ℕ, zero, suc, _+_, _-_, _*_, _/_, _%_, _≤_, _<_}
+-- the start time by the count of frames, and a pending header's mode extension (Ring has the ring position and the memory).
+-- From 01, "Numbers a call can give" (State in range). Assumes nothing.
+use Prim.Native.Nat.{ℕ, zero, suc, _+_, _-_, _*_, _/_, _≤_, _<_}
 use mathlib.Core.Path.{_≡_, refl, sym, ap, _∙_}
 use mathlib.Core.Bool.{Bool, true, false}
 use mathlib.Core.List.{List}
@@ -10,14 +10,14 @@ use native.Mathlib.Omega.{arith}
 use native.Mathlib.Decide.{ℕ-discrete}
 use lib.Dec.{eqb, ltb}
 use lib.Ieee.{Float, binary64, toBits, div, ofInt, round, units, odd, size}
-use lib.ListN.{length, length-append, length-drop}
+use lib.ListN.{length}
 use borrow.Author.Tests.{lt-ltb, le-ltb, eq-eqb, eqb-false, ltb-true, ltb-false}
 use Rattle.ground.specs.Tests.{by-test}
 use Rattle.buffer.specs.Calls.{alignOf, hasOf, left}
 use Rattle.buffer.specs.declared.Reader.{Reader}
 use Rattle.buffer.specs.declared.Holds.{Holds}
 use Rattle.buffer.specs.declared.Holds.the-variants.{Yes, No, Refused as HoldsRefused}
-use Rattle.header.specs.Header.{boundBy, headerOf, startOf as headerStart}
+use Rattle.header.specs.Header.{headerOf, startOf as headerStart}
 use Rattle.header.specs.Accepted.{Extended, Good, GoodHeader, header-good}
 use Rattle.header.specs.Moves.{attempt-moves}
 use Rattle.header.specs.declared.Format.{Format}
@@ -25,12 +25,11 @@ use Rattle.header.specs.declared.Header.{Header}
 use Rattle.header.specs.declared.Header.the-variants.{Accepted, Refused as HeaderRefused}
 use Rattle.clock.specs.Clock.{startOf, sameBits, onTime}
 use Rattle.clock.proofs.Real.{start-real, like-bits}
-use Rattle.synthesis.specs.Ring.{place-after, position-frame}
-use Rattle.synthesis.specs.Memory.{memory-length}
-use Rattle.frame.specs.Frame.{cutFormat, granulesAt, memoryOf}
+use Rattle.synthesis.specs.Ring.{place-after}
+use Rattle.frame.specs.Frame.{cutFormat, granulesAt}
 use Rattle.audio.specs.State.{fresh, inRange}
 use Rattle.audio.specs.Before.{asked, seeking, tried, attemptOf, headedOf, holding, enoughOf, goesOn, pended, readyOf}
-use Rattle.audio.specs.Calls.{alignedOf, answering, remembering, afterOf, framedOf, framedMemory, decodeOf, decodeMemory, openOf, openMemory, hasHeaderOf}
+use Rattle.audio.specs.Calls.{alignedOf, answering, afterOf, framedOf, decodeOf, openOf, hasHeaderOf}
 use Rattle.audio.specs.Facts.{Ranged, ranged, in-range, Ready, goes, ended}
 use Rattle.audio.specs.declared.Audio.{Audio}
 use Rattle.audio.specs.declared.Answer.{Answer}
@@ -40,14 +39,11 @@ use Rattle.audio.specs.declared.Heading.{Heading}
 use Rattle.audio.specs.declared.Heading.the-variants.{Known, Refused}
 use Rattle.claims.specs.Pasts.{Past, opened, asked as has-asked, rated, decoded, refused}
 use Rattle.claims.specs.Least.{frame-uses-16-bits}
-use Rattle.claims.specs.Untouched.{blank-length}
 
 -- what a decoder's states hold beside being in range: a saved state may not
 pub record Sound (a : Audio) : Type 0 where
   -- the bound of a pending header, which is not yet cut, is that of its mode and of a mode extension
   pub extension : (a .pending ≡ 0 → ⊥) → Extended (a .format .mode) (a .format .bound)
-  -- the ring position starts at 0 and falls by 256, modulo 1,024, with each frame
-  pub ring : a .ring ≡ (1024 - 256 * (a .frames % 4)) % 1024
   pub time : a .time ≡ startOf (a .frames) (a .format .samplerate)
 
 -- a question asked of a state in range gives such a state again, with a header pending if one was found
@@ -90,7 +86,7 @@ module _ (a : Audio) (r : Reader) (w : Ranged a) (near : r .at .0 ≤ 134217736)
         first = w .first;
         time = w .time;
       })
-      (λ h. record { extension = λ some. absurd (some refl); ring = h .ring; time = h .time }) refl
+      (λ h. record { extension = λ some. absurd (some refl); time = h .time }) refl
 
   -- accepted: the sample rate is the old one, or there was none
   module _ (f : Format) (n : ℕ) (g : Good (a .format) f n) where
@@ -121,7 +117,7 @@ module _ (a : Audio) (r : Reader) (w : Ranged a) (near : r .at .0 ≤ 134217736)
                 first = λ e. absurd (let l = g .samplerate in omega arith);
                 time = ap (sameBits (a .time)) (sym same-start) ∙ w .time;
               };
-          sound = λ h. record { extension = λ _. g .extension; ring = h .ring; time = h .time ∙ same-start };
+          sound = λ h. record { extension = λ _. g .extension; time = h .time ∙ same-start };
           frames = refl;
           some = λ _ e. omega arith;
         }
@@ -228,16 +224,7 @@ module _ (s : List ℕ) (a : Audio) (y : Ready s a) (w : Ranged a) (some : a .pe
 
   framed-sound : Sound a → Sound (framedOf s a .state)
   unfolding framedOf afterOf cutFormat
-  framed-sound h =
-      record {
-        extension = λ some. absurd (some refl);
-        ring = position-frame (w .place) ∙ back (a .frames) (a .ring) (h .ring);
-        time = refl;
-      }
-    where
-      back : (frames ring : ℕ) → ring ≡ (1024 - 256 * (frames % 4)) % 1024
-          → (ring + 768) % 1024 ≡ (1024 - 256 * ((frames + 1) % 4)) % 1024
-      back frames ring e = omega arith
+  framed-sound h = record { extension = λ some. absurd (some refl); time = refl }
 
 -- ---- the calls
 
@@ -350,7 +337,12 @@ sound-state-in-range (refused {a} p s o short l) = decode-stays-in-range s short
 
 fresh-sound : Sound fresh
 unfolding fresh startOf
-fresh-sound = record { extension = λ some. absurd (some refl); ring = refl; time = refl }
+fresh-sound = record { extension = λ some. absurd (some refl); time = refl }
+
+-- the header of a frame about to be decoded has a mode extension
+pub frame-has-extension : (s : List ℕ) (m o : ℕ) (a : Audio) → inRange a ≡ true → Sound a → readyOf s m o a .answer ≡ Known
+    → Extended (readyOf s m o a .state .format .mode) (readyOf s m o a .state .format .bound)
+frame-has-extension s m o a r h e = let k = ready-kept s m o a (ranged a r) in k .sound h .extension (k .some e)
 
 pub sound : {a : Audio} {m : List Float} → Past a m → Sound a
 sound (opened s m l k) = open-leads s m .sound fresh-sound
@@ -385,40 +377,5 @@ frames-are-counted (decoded {a} {m} p s o) =
 frames-are-counted (refused {a} p s o short l) = ap (λ (b : Audio). b .frames) (short-leaves s short o a l) ∙ frames-are-counted p
 
 module _ {a : Audio} {m : List Float} (past : Past a m) where
-  pub ring-by-frames : a .ring ≡ (1024 - 256 * (a .frames % 4)) % 1024
-  ring-by-frames = sound past .ring
-
   pub time-by-frames : a .time ≡ startOf (a .frames) (a .format .samplerate)
   time-by-frames = sound past .time
-
-  pub pending-extension : (a .pending ≡ 0 → ⊥) → (e : ℕ) × (e < 4) × (a .format .bound ≡ boundBy (a .format .mode) e)
-  pending-extension some = sound past .extension some
-
--- ---- and its memory
-
-pub decode-keeps-length : (s : List ℕ) (m o : List Float) (a : Audio) → length (decodeMemory s m o a) ≡ length m
-unfolding decodeMemory framedMemory memoryOf
-decode-keeps-length s m o a = go (r .answer) refl
-  where
-    r : Asked
-    r = readyOf s (length m) (length o) a
-
-    go : (y : Heading) → r .answer ≡ y → length (remembering s m y (r .state)) ≡ length m
-    go Known e = let g = goes s (length m) (length o) a r refl e in memory-length _ (g .ready .place) m (g .memory-long) 36
-    go (Refused n) e = refl
-
-opened-length : (s : List ℕ) (m : List Float) → 2048 ≤ length m → length (openMemory s m) ≡ length m
-unfolding openMemory
-opened-length s m k =
-    by-test P (ltb 16777216 (length s)) _ _ (λ _. refl)
-    (λ _. by-test P (ltb (length m) 2048) _ _ (λ _. refl) (λ _. simp (length-append, length-drop, blank-length) (omega arith)))
-  where
-    P : List Float → Type 0
-    P x = length x ≡ length m
-
-pub memory-stays-long : {a : Audio} {m : List Float} → Past a m → 2048 ≤ length m
-memory-stays-long (opened s m l k) = omega (arith, opened-length s m k)
-memory-stays-long (has-asked p s) = memory-stays-long p
-memory-stays-long (rated p) = memory-stays-long p
-memory-stays-long (decoded {a} {m} p s o) = omega (arith, decode-keeps-length s m o a, memory-stays-long p)
-memory-stays-long (refused p s o short l) = memory-stays-long p

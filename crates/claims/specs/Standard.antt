@@ -23,7 +23,7 @@ use Rattle.standard.specs.Layer2.{Fields, audioData}
 use Rattle.standard.specs.Made.{samplesBy01}
 use Rattle.standard.specs.Headers.{Fields as HeaderFields, format, dataSize, the-standards-header}
 use Rattle.standard.specs.Alike.{Unlisted, the-standards-frame}
-use Rattle.frame.specs.Frame.{limitIn, codesIn, granulesAt}
+use Rattle.frame.specs.Frame.{codesIn, granulesAt}
 use Rattle.claims.specs.Accepted.{Call, frameState, granulesIn, endOf, Accepts}
 
 -- the table that the standard says for a format, and the audio data that it lists

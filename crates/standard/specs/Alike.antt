@@ -8,13 +8,12 @@ use mathlib.Core.Bool.{Bool, true, false, cond, not, _&&_, _||_}
 use mathlib.Core.List.{List, [], _∷_, _++_}
 use native.Mathlib.Nat.{lt-of-lt-of-le}
 use native.Mathlib.Omega.{arith}
-use borrow.Author.Tests.{ne-eqb, eqb-false}
+use borrow.Author.Tests.{ne-eqb}
 use lib.Dec.{T, eqb, ltb, leb, eqb→eq, ltb→lt, leb→le, lit≤}
 use lib.IntN.{ℤ, pos}
 use lib.ListN.{length, getD, set, replicate, length-set, length-replicate, length-append}
 use lib.Pow.{pow-pos, pow-mono}
 use lib.Seq.{getD-set-same, getD-set-other}
-use Rattle.ground.specs.Tests.{by-test}
 use Rattle.ground.specs.Entries.{each, entry}
 use Rattle.ground.specs.Upto.{upto, below, below2, and-left, and-right, or-left}
 use Rattle.buffer.specs.declared.Reader.{Reader}
@@ -25,10 +24,10 @@ use Rattle.tables.specs.Source.{step4, rowOf as sourceRow, quantiserOf}
 use Rattle.tables.specs.Differences.{numberOf, listed, same-width, differs-only}
 use Rattle.tables.specs.Laws.{width≤4, quantiser<18}
 use Rattle.samples.specs.Sample.{factorOf}
-use Rattle.side.specs.Bands.{bands, pairOf, channelsOf, allocatedOf, three}
+use Rattle.side.specs.Bands.{bands, channelsOf, allocatedOf, three}
 use Rattle.side.specs.Side.{Side, allocationOf, allocationBandOf, allocationsOf, selectorOf, factorsOf, sideOf}
 use Rattle.codes.specs.Frame.{singlesOf, codesOf, samplesOf, placeOf, copied, sampleBandOf, granuleOf, granulesOf, frameOf}
-use Rattle.standard.specs.Related.{Related, Alike, related-run, related-cond, related-bind, related-assoc, related-done, related-made, related-bands, related-pair, Twin, twin-replicate, twin-set}
+use Rattle.standard.specs.Related.{Related, related-run, related-cond, related-bind, related-assoc, related-done, related-made, related-bands, related-pair, Twin, twin-replicate, twin-set}
 use Rattle.standard.specs.Layer2.{allocation, allocationBand, allocations, scfsi, scalefactors, Code, grouped, single, none, Fields, find, classFor, code, codeAt, codeBand, granules, afterAllocations, audioData}
 use Rattle.standard.specs.Made.{digits, place, placed, band, made, madeFrom, samplesBy01}
 

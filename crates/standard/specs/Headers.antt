@@ -1,22 +1,22 @@
 -- The header of ISO/IEC 11172-3, 2.4.1.3, by the standard's own list of fields, and what the port makes of it: at a byte where such a
 -- header stands, the port accepts it, with the standard's fields. Demand 2: "Header .. proved against a definition written from
 -- ISO/IEC 11172-3 Layer II". Assumes nothing.
-use Prim.Native.Nat.{ℕ, _+_, _-_, _*_, _/_, _%_, _^_, _≤_, _<_}
+use Prim.Native.Nat.{ℕ, _+_, _-_, _*_, _/_, _%_, _^_, _≤_}
 use mathlib.Core.Path.{_≡_, refl, sym, ap, _∙_, subst}
-use mathlib.Core.Bool.{Bool, true, false, cond, not, _&&_, _||_}
+use mathlib.Core.Bool.{Bool, true, false, cond, _||_}
 use mathlib.Core.List.{List}
 use native.Mathlib.Nat.{zero-div}
 use native.Mathlib.Omega.{arith}
-use lib.Dec.{eqb, ltb}
+use lib.Dec.{eqb}
 use lib.ListN.{length, getD}
-use borrow.Author.Tests.{le-ltb, ne-eqb, eq-eqb}
-use Rattle.ground.specs.First.{firstFrom, first-here}
+use borrow.Author.Tests.{le-ltb, ne-eqb}
+use Rattle.ground.specs.First.{first-here}
 use Rattle.buffer.specs.Bits.{bitAt, bitsValue, pastOf, otherAt}
 use Rattle.buffer.specs.Calls.{readerAt, fieldOf, hasOf, skipBytesOf}
 use Rattle.buffer.specs.Laws.{split, below, field-whole}
 use Rattle.buffer.specs.declared.Field.{Field}
 use Rattle.grammar.specs.Reads.{Reads, done, ask, _>>=_, Ran, ran, run}
-use Rattle.grammar.specs.Run.{run-ask, run-bind}
+use Rattle.grammar.specs.Run.{run-bind}
 use Rattle.header.specs.Header.{startOf, syncOf, identOf, ratesOf, modeOf, boundBy, boundOf, checkOf, sizeOf, differs, restOf, byRates, byIdent, fieldsOf, attempt, byStart, headerOf}
 use Rattle.header.specs.declared.Ident.{Ident}
 use Rattle.header.specs.declared.Ident.the-variants.{LayerII}
@@ -25,7 +25,6 @@ use Rattle.header.specs.declared.Rates.the-variants.{Known, Refused as RatesRef
 use Rattle.header.specs.declared.Format.{Format}
 use Rattle.header.specs.declared.Header.{Header}
 use Rattle.header.specs.declared.Header.the-variants.{Accepted, Refused}
-use Rattle.header.specs.declared.Start.{Start}
 use Rattle.header.specs.declared.Start.the-variants.{At}
 
 -- the fields that matter, by their first bit after the start at bit p and their width

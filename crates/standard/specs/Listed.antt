@@ -1,10 +1,10 @@
 -- Where the source leaves ISO/IEC 11172-3 in a frame's fields and codes, one small theorem each; docs/DIFFERENCES.md has the streams.
 -- Assumes nothing.
-use Prim.Native.Nat.{ℕ, zero, suc, _+_, _*_, _/_, _%_, _<_}
+use Prim.Native.Nat.{ℕ, _*_, _/_, _%_, _<_}
 use mathlib.Core.Path.{_≡_, refl, sym}
 use native.Mathlib.Nat.{mod-eq-of-lt, div-lt-iff-lt-mul}
-use lib.IntN.{ℤ, pos, negsuc}
-use Rattle.tables.specs.Standard.{B2c, B2d, rowsOf, rowOf, stepsOf, classes, quantisationOf, levelsOf}
+use lib.IntN.{negsuc}
+use Rattle.tables.specs.Standard.{B2c, rowsOf, rowOf, stepsOf, classes, quantisationOf, levelsOf}
 use Rattle.tables.specs.Source.{rowOf as sourceRow, quantiserOf}
 use Rattle.tables.specs.Differences.{taken}
 use Rattle.samples.specs.Sample.{scaleOf, adjOf, scaledBy, sampleOf, factorOf, digitsOf}
