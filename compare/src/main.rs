@@ -5,24 +5,33 @@
 mod answers;
 #[cfg(layer = "bench")]
 mod bench;
+#[cfg(layer = "decode")]
+mod both;
 #[cfg(any(layer = "answers", layer = "header", layer = "decode"))]
 mod by_01;
+#[cfg(layer = "decode")]
+mod classes;
 #[cfg(layer = "codes")]
 mod codes;
 #[cfg(layer = "decode")]
 mod decode;
+#[cfg(layer = "decode")]
+#[path = "../../firmware/tag.rs"]
+mod firmware;
 #[cfg(any(layer = "codes", layer = "sound", layer = "decode"))]
 mod frames;
 #[cfg(layer = "header")]
 mod header;
 #[cfg(layer = "reader")]
 mod reader;
+#[cfg(layer = "decode")]
+mod saved;
 #[cfg(not(layer = "answers"))]
 mod seeded;
 #[cfg(layer = "sound")]
 mod sound;
 mod source;
-#[cfg(not(layer = "answers"))]
+#[cfg(not(any(layer = "answers", layer = "decode")))]
 mod tag;
 #[cfg(not(any(layer = "answers", layer = "bench")))]
 mod tally;
@@ -40,6 +49,7 @@ fn main() {
 
 #[cfg(not(any(layer = "answers", layer = "bench")))]
 fn main() {
+    #[cfg(not(layer = "decode"))]
     let count: Option<usize> = std::env::args().nth(1).and_then(|word| word.parse().ok());
     let mut tally = tally::Tally::default();
     #[cfg(layer = "reader")]
@@ -51,6 +61,6 @@ fn main() {
     #[cfg(layer = "sound")]
     sound::compare(&mut tally, count.unwrap_or(1_000_000));
     #[cfg(layer = "decode")]
-    decode::compare(&mut tally, count.unwrap_or(100_000));
+    decode::compare(&mut tally, &std::env::args().skip(1).collect::<Vec<_>>());
     std::process::exit(tally.close());
 }

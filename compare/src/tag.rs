@@ -1,4 +1,5 @@
-//! The static libraries' functions, with a slice passed as a pointer and a length, an array as a pointer.
+//! The static libraries' functions, with a slice passed as a pointer and a length, an array as a pointer. The decoder's
+//! four calls go by the wrapper that firmware uses, ../../firmware/tag.rs.
 
 mod boundary {
     extern "C" {
@@ -57,45 +58,6 @@ mod boundary {
             output_length: usize,
             at: usize,
         ) -> usize;
-        #[cfg(layer = "decode")]
-        pub fn tag_open(
-            stream: *const u8,
-            length: usize,
-            memory: *mut f32,
-            memory_length: usize,
-            places: *mut [usize; 6],
-            counts: *mut [u32; 2],
-            time: *mut [f64; 1],
-        ) -> u32;
-        #[cfg(layer = "decode")]
-        pub fn tag_has_header(
-            stream: *const u8,
-            length: usize,
-            places: *mut [usize; 6],
-            counts: *mut [u32; 2],
-            time: *mut [f64; 1],
-        ) -> u32;
-        #[cfg(layer = "decode")]
-        pub fn tag_samplerate(
-            places: *const [usize; 6],
-            counts: *const [u32; 2],
-            time: *const [f64; 1],
-            rate: *mut [u32; 1],
-        ) -> u32;
-        #[cfg(layer = "decode")]
-        pub fn tag_decode(
-            stream: *const u8,
-            length: usize,
-            memory: *mut f32,
-            memory_length: usize,
-            output: *mut f32,
-            output_length: usize,
-            places: *mut [usize; 6],
-            counts: *mut [u32; 2],
-            time: *mut [f64; 1],
-            start: *mut [f64; 1],
-            bits: *mut [usize; 1],
-        ) -> u32;
     }
 }
 
@@ -199,62 +161,4 @@ pub fn frame(stream: &[u8], at: usize, format: crate::source::Format) -> Read {
 pub fn synthesize(memory: &mut [f32], p: usize, sample: &[i32; 192], output: &mut [f32], at: usize) -> usize {
     let (ring, room) = (memory.len(), output.len());
     unsafe { boundary::probe_synthesize(memory.as_mut_ptr(), ring, p, sample, output.as_mut_ptr(), room, at) }
-}
-
-/// The port's decoder: its state as the boundary has it, and what is lent to it.
-#[cfg(layer = "decode")]
-pub struct Decoder {
-    /// Bit position, sample-rate code, bit-rate index, bound, pending data size, ring position.
-    pub places: [usize; 6],
-    /// Mode, frames.
-    pub counts: [u32; 2],
-    /// When the next frame starts.
-    pub time: [f64; 1],
-    pub memory: Vec<f32>,
-    pub output: Vec<f32>,
-}
-
-#[cfg(layer = "decode")]
-impl Decoder {
-    pub fn open(&mut self, stream: &[u8]) -> u32 {
-        let (memory, room) = (self.memory.as_mut_ptr(), self.memory.len());
-        let (places, counts, time) = (&mut self.places, &mut self.counts, &mut self.time);
-        unsafe { boundary::tag_open(stream.as_ptr(), stream.len(), memory, room, places, counts, time) }
-    }
-
-    pub fn has_header(&mut self, stream: &[u8]) -> u32 {
-        let (places, counts, time) = (&mut self.places, &mut self.counts, &mut self.time);
-        unsafe { boundary::tag_has_header(stream.as_ptr(), stream.len(), places, counts, time) }
-    }
-
-    /// The number and the rate.
-    pub fn samplerate(&self) -> (u32, u32) {
-        let mut rate = [u32::MAX];
-        let number = unsafe { boundary::tag_samplerate(&self.places, &self.counts, &self.time, &mut rate) };
-        (number, rate[0])
-    }
-
-    /// The number; for a frame its start time and the bits that it used, beside a refusal zeros.
-    pub fn decode(&mut self, stream: &[u8]) -> (u32, f64, usize) {
-        let (mut start, mut bits) = ([-1.0], [usize::MAX]);
-        let (memory, memory_length) = (self.memory.as_mut_ptr(), self.memory.len());
-        let (output, output_length) = (self.output.as_mut_ptr(), self.output.len());
-        let (places, counts, time) = (&mut self.places, &mut self.counts, &mut self.time);
-        let number = unsafe {
-            boundary::tag_decode(
-                stream.as_ptr(),
-                stream.len(),
-                memory,
-                memory_length,
-                output,
-                output_length,
-                places,
-                counts,
-                time,
-                &mut start,
-                &mut bits,
-            )
-        };
-        (number, start[0], bits[0])
-    }
 }
