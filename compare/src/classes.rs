@@ -1,19 +1,9 @@
 //! Seeded streams, by class. A seed gives the same stream wherever the files of streams/ and clips/ are the same.
 
+use crate::files::files;
 use crate::frames::{format, FORMATS};
 use crate::seeded::{header as some_header, Seeded, CORNERS};
 use crate::source::Format;
-use std::path::{Path, PathBuf};
-
-/// The .mp2 files of a folder, in name order, each with its bytes.
-pub fn files(folder: &Path) -> Vec<(String, Vec<u8>)> {
-    let entries = std::fs::read_dir(folder).expect("a folder of streams");
-    let mut paths: Vec<PathBuf> = entries.map(|entry| entry.unwrap().path()).collect();
-    paths.retain(|path| path.extension().is_some_and(|extension| extension == "mp2"));
-    paths.sort();
-    let read = |path: PathBuf| (path.to_string_lossy().into_owned(), std::fs::read(&path).unwrap());
-    paths.into_iter().map(read).collect()
-}
 
 /// What the mutations start from.
 pub struct Clips(Vec<Vec<u8>>);

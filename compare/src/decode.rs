@@ -1,7 +1,8 @@
 //! Whole decoders on classes of streams: what is called on them, and in which order. `both` compares each call.
 
 use crate::both::{number_of, state_of, Both, GUARD};
-use crate::classes::{files, payload, Clips, STREAMS};
+use crate::classes::{payload, Clips, STREAMS};
+use crate::files::files;
 use crate::firmware::{Decoder, MEMORY, OUTPUT, STREAM};
 use crate::saved;
 use crate::seeded::Seeded;
@@ -153,7 +154,13 @@ fn seeded(tally: &mut Tally, seed: u64, clips: &Clips) {
 
 fn published(tally: &mut Tally, class: &str, folder: &str) {
     for (name, stream) in files(folder.as_ref()) {
-        whole(tally, class, &name, &stream, &mut Seeded::new(stream.len() as u64));
+        whole(
+            tally,
+            class,
+            &name.to_string_lossy(),
+            &stream,
+            &mut Seeded::new(stream.len() as u64),
+        );
     }
 }
 

@@ -11,11 +11,15 @@ mod both;
 mod by_01;
 #[cfg(layer = "decode")]
 mod classes;
+#[cfg(layer = "bench")]
+mod clock;
 #[cfg(layer = "codes")]
 mod codes;
 #[cfg(layer = "decode")]
 mod decode;
-#[cfg(layer = "decode")]
+#[cfg(any(layer = "answers", layer = "decode", layer = "bench"))]
+mod files;
+#[cfg(any(layer = "decode", layer = "bench"))]
 #[path = "../../firmware/tag.rs"]
 mod firmware;
 #[cfg(any(layer = "codes", layer = "sound", layer = "decode"))]
@@ -35,16 +39,26 @@ mod source;
 mod tag;
 #[cfg(not(any(layer = "answers", layer = "bench")))]
 mod tally;
+#[cfg(layer = "bench")]
+mod wave;
 
 #[cfg(layer = "answers")]
-fn main() -> std::io::Result<()> {
+fn main() {
     let folder = std::env::args().nth(1).expect("a folder of streams");
-    answers::print(folder.as_ref())
+    answers::print(folder.as_ref());
 }
 
 #[cfg(layer = "bench")]
 fn main() {
-    bench::reader();
+    let words: Vec<String> = std::env::args().skip(1).collect();
+    match &words.iter().map(String::as_str).collect::<Vec<_>>()[..] {
+        ["wave", path] => wave::write(path.as_ref()).unwrap(),
+        [folder, rounds] => {
+            bench::reader();
+            bench::streams(folder.as_ref(), rounds.parse().expect("a number of rounds"));
+        }
+        _ => panic!("wave FILE, or FOLDER ROUNDS"),
+    }
 }
 
 #[cfg(not(any(layer = "answers", layer = "bench")))]
