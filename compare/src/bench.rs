@@ -112,7 +112,7 @@ fn others(folder: &Path) -> Vec<Other> {
 const KBPS: [usize; 16] = [0, 32, 48, 56, 64, 80, 96, 112, 128, 160, 192, 224, 256, 320, 384, 0];
 
 /// The frames of an encoder's stream that have its commonest format, as twolame's joint stereo changes between two.
-fn frames_of(stream: &[u8]) -> Vec<&[u8]> {
+pub fn frames_of(stream: &[u8]) -> Vec<&[u8]> {
     let mut all: Vec<Vec<&[u8]>> = vec![Vec::new(); 4];
     let mut at = 0;
     while at + 4 <= stream.len() {

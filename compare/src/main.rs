@@ -24,6 +24,8 @@ mod files;
 mod firmware;
 #[cfg(any(layer = "codes", layer = "sound", layer = "decode"))]
 mod frames;
+#[cfg(layer = "bench")]
+mod grow;
 #[cfg(layer = "header")]
 mod header;
 #[cfg(layer = "reader")]
@@ -53,11 +55,12 @@ fn main() {
     let words: Vec<String> = std::env::args().skip(1).collect();
     match &words.iter().map(String::as_str).collect::<Vec<_>>()[..] {
         ["wave", path] => wave::write(path.as_ref()).unwrap(),
+        ["grow", folder] => grow::print(folder.as_ref()),
         [folder, rounds] => {
             bench::reader();
             bench::streams(folder.as_ref(), rounds.parse().expect("a number of rounds"));
         }
-        _ => panic!("wave FILE, or FOLDER ROUNDS"),
+        _ => panic!("wave FILE, grow FOLDER, or FOLDER ROUNDS"),
     }
 }
 
