@@ -131,15 +131,11 @@ pub fn frames_of(stream: &[u8]) -> Vec<&[u8]> {
 fn decoders(name: &str, stream: &[u8], others: &[Other], rounds: usize) {
     let frames = frames_of(stream);
     let parts: Vec<Vec<u8>> = frames.chunks(frames.len().div_ceil(10)).map(<[_]>::concat).collect();
+    let (count, bytes) = (frames.len(), parts.concat().len());
     println!(
-        "{name}: {} frames, {} bytes, in {} parts, {rounds} rounds",
-        frames.len(),
-        parts.concat().len(),
+        "{name}: {count} frames, {bytes} bytes, in {} parts, {rounds} rounds",
         parts.len()
     );
-    let names = ["the Rust", "ours"]
-        .into_iter()
-        .chain(others.iter().map(|other| other.name));
     let mut times: Vec<Vec<f64>> = vec![Vec::new(); 2 + others.len()];
     let mut played = vec![0; times.len()];
     for part in (0..rounds).flat_map(|_| &parts) {
@@ -154,19 +150,21 @@ fn decoders(name: &str, stream: &[u8], others: &[Other], rounds: usize) {
         }
     }
     assert_eq!(played[0], played[1], "frames played");
-    println!("  decoder   frames  µs a frame  to the Rust  (half of the rounds within)");
-    for (i, name) in names.enumerate() {
-        let ratios = times[i]
-            .iter()
-            .zip(&times[0])
-            .map(|(time, source)| time / source)
-            .collect();
+    let names = ["the Rust", "ours"]
+        .into_iter()
+        .chain(others.iter().map(|other| other.name));
+    played.iter_mut().for_each(|frames| *frames /= rounds as i64);
+    table(names, &times, &played);
+}
+
+/// A line for each decoder: frames, time, and its ratio to the Rust on the same part.
+fn table<'a>(names: impl Iterator<Item = &'a str>, times: &[Vec<f64>], played: &[i64]) {
+    println!("  decoder   frames  µs a frame  to the Rust  (half of the parts within)");
+    for ((name, list), played) in names.zip(times).zip(played) {
+        let ratios = list.iter().zip(&times[0]).map(|(time, source)| time / source).collect();
         let [low, middle, high] = quartiles(ratios);
-        let micros = median(times[i].clone()) / 1e3;
-        println!(
-            "  {name:<9} {:>6}  {micros:>10.2}  {middle:>11.3}  ({low:.3} .. {high:.3})",
-            played[i] / rounds as i64
-        );
+        let micros = median(list.clone()) / 1e3;
+        println!("  {name:<9} {played:>6}  {micros:>10.2}  {middle:>11.3}  ({low:.3} .. {high:.3})");
     }
 }
 

@@ -49,13 +49,23 @@ fn source_state(audio: &Audio) -> State {
     (places, [f.mode as u32, frames as u32], time.to_bits())
 }
 
+/// A value's bits. Two NaNs count as the same: which bits a NaN has is no promise of a processor, or of the Rust. Only a
+/// memory that no opening cleared can lead to one.
+fn key(value: &f32) -> u32 {
+    if value.is_nan() {
+        f32::NAN.to_bits()
+    } else {
+        value.to_bits()
+    }
+}
+
 /// The first place where what is lent differs in a bit from the parts that are expected, or behind them from the guard,
 /// with the bits of both.
 fn difference(lent: &[f32], expected: &[&[f32]]) -> Option<(usize, u32, u32)> {
     let mut at = 0;
     let guard = vec![GUARD; lent.len() - expected.iter().map(|part| part.len()).sum::<usize>()];
     for part in expected.iter().chain([&&guard[..]]) {
-        let pairs = lent[at..].iter().zip(*part).map(|(a, b)| (a.to_bits(), b.to_bits()));
+        let pairs = lent[at..].iter().zip(*part).map(|(a, b)| (key(a), key(b)));
         if pairs.clone().fold(0, |all, (a, b)| all | (a ^ b)) != 0 {
             return (at..)
                 .zip(pairs)

@@ -49,16 +49,16 @@ pub fn in_range(s: &mut Seeded, length: usize) -> Decoder {
     }
 }
 
-/// A memory of numbers, of zeros of both signs, or of sizes far apart. No sum of them overflows: what a NaN's bits are
-/// is no promise of the processor.
+/// A memory of numbers, of zeros of both signs, of sizes far apart, or of anything that an f32 can be.
 pub fn memory(s: &mut Seeded) -> Vec<f32> {
-    let kind = s.below(4);
+    let kind = s.below(5);
     let value = |s: &mut Seeded| {
         let number = s.below(1 << 24) as f32 - 8_388_608.0;
         match kind {
             0 => s.one_of(&[0.0, -0.0]),
             1 => number * s.one_of(&[1e-45, 1e-20, 1.0, 1e20]),
             2 => number / 16.0,
+            3 => f32::from_bits(s.below(1 << 32) as u32),
             _ => number * 64.0,
         }
     };

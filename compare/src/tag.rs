@@ -97,63 +97,35 @@ pub struct Read {
     pub samples: [[i32; 192]; 12],
 }
 
+/// The limit of subbands, the allocation table and the bound, cut to the limit.
+#[cfg(any(layer = "codes", layer = "sound"))]
+fn layout(f: crate::source::Format) -> [usize; 3] {
+    let mut layout = [0; 3];
+    unsafe { boundary::probe_layout(f.mode as u32, f.bitrate_index, f.samplerate_index, f.bound, &mut layout) };
+    layout
+}
+
 /// A frame of that format from bit `at`.
 #[cfg(any(layer = "codes", layer = "sound"))]
 pub fn frame(stream: &[u8], at: usize, format: crate::source::Format) -> Read {
-    let mut layout = [0; 3];
-    let mode = format.mode as u32;
-    unsafe {
-        boundary::probe_layout(
-            mode,
-            format.bitrate_index,
-            format.samplerate_index,
-            format.bound,
-            &mut layout,
-        )
-    };
-    let [limit, table, bound] = layout;
-    let (data, length) = (stream.as_ptr(), stream.len());
-    let (mut quant, mut factor) = ([0xFF; 64], [u32::MAX; 192]);
-    let mut end = unsafe {
-        boundary::probe_side(
-            data,
-            length,
-            at,
-            mode == 3,
-            table,
-            bound,
-            limit,
-            &mut quant,
-            &mut factor,
-        )
-    };
-    let mut ends = [end; 13];
-    let samples = std::array::from_fn(|granule| {
-        let mut sample = [0; 192];
-        end = unsafe {
-            boundary::probe_granule(
-                data,
-                length,
-                end,
-                &quant,
-                &factor,
-                granule / 4,
-                bound,
-                limit,
-                &mut sample,
-            )
-        };
-        ends[granule + 1] = end;
-        sample
-    });
-    Read {
+    let [limit, table, bound] = layout(format);
+    let (data, length, mono) = (stream.as_ptr(), stream.len(), format.mode == 3);
+    let mut read = Read {
         limit,
         bound,
-        quant,
-        factor,
-        ends,
-        samples,
+        quant: [0xFF; 64],
+        factor: [u32::MAX; 192],
+        ends: [0; 13],
+        samples: [[0; 192]; 12],
+    };
+    let (quant, factor) = (&mut read.quant, &mut read.factor);
+    read.ends[0] = unsafe { boundary::probe_side(data, length, at, mono, table, bound, limit, quant, factor) };
+    for granule in 0..12 {
+        let (at, part, sample) = (read.ends[granule], granule / 4, &mut read.samples[granule]);
+        read.ends[granule + 1] =
+            unsafe { boundary::probe_granule(data, length, at, quant, factor, part, bound, limit, sample) };
     }
+    read
 }
 
 /// A granule's sound, to the output from `at` on; gives the ring position after it.
