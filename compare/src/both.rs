@@ -199,4 +199,10 @@ impl<'a> Both<'a> {
         self.answered("listed: decode", number, ours, Err(Refusal(number)), stream);
         self.values(stream);
     }
+
+    /// The same for has_header.
+    pub fn header_refused(&mut self, stream: &[u8], number: u32) {
+        let ours = number_of(self.ours.has_header(stream));
+        self.answered("listed: has_header", number, ours, number, stream);
+    }
 }

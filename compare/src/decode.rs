@@ -246,9 +246,30 @@ fn too_long(tally: &mut Tally, frame: Vec<u8>) {
     }
     both.decode(&frame);
     both.refused(&long, 8, MEMORY, OUTPUT);
+    both.header_refused(&long, 8);
 }
 
-/// Where two refusals hold, 01's order decides: 8, 9, 10; beside each the start and the bits are 0.
+/// Both calls that leave numbers beside their answer, past the wrapper, from a state that knows a header: the answers of
+/// decode and samplerate, each with what stands beside it.
+fn beside(stream: &[u8], room: usize, ring: usize) -> ((u32, u64, usize), (u32, u32)) {
+    use crate::firmware::boundary::{tag_decode, tag_samplerate};
+    let (mut places, mut counts, mut time) = ([0, 0, 0, 0, 0, ring], [0; 2], [0.0]);
+    let (mut memory, mut output) = ([GUARD; MEMORY], [GUARD; OUTPUT]);
+    let (mut rate, mut start, mut bits) = ([7], [-1.0], [7]);
+    let (data, length) = (stream.as_ptr(), stream.len());
+    let (ring, sound) = (memory.as_mut_ptr(), output.as_mut_ptr());
+    let (places, counts, time) = (&mut places, &mut counts, &mut time);
+    let rated = unsafe { tag_samplerate(places, counts, time, &mut rate) };
+    let (start_at, bits_at) = (&mut start, &mut bits);
+    let number = unsafe {
+        tag_decode(
+            data, length, ring, room, sound, OUTPUT, places, counts, time, start_at, bits_at,
+        )
+    };
+    ((number, start[0].to_bits(), bits[0]), (rated, rate[0]))
+}
+
+/// Where two refusals hold, 01's order decides: 8, 9, 10. Beside each there are zeros.
 fn order(tally: &mut Tally) {
     tally.stream("two refusals at once");
     let long = vec![0; STREAM + 1];
@@ -259,23 +280,11 @@ fn order(tally: &mut Tally) {
         (STREAM, MEMORY, 1, 10),
         (0, MEMORY, 0, 1),
     ] {
-        let mut places = [0, 3, 0, 0, 0, ring];
-        let (mut counts, mut time, mut start, mut bits) = ([0; 2], [0.0], [-1.0], [7]);
-        let (mut memory, mut output) = ([GUARD; MEMORY], [GUARD; OUTPUT]);
-        let (ring, sound) = (memory.as_mut_ptr(), output.as_mut_ptr());
-        let (places, counts, time) = (&mut places, &mut counts, &mut time);
-        let given = unsafe {
-            use crate::firmware::boundary::tag_decode;
-            let stream = long.as_ptr();
-            tag_decode(
-                stream, length, ring, room, sound, OUTPUT, places, counts, time, &mut start, &mut bits,
-            )
-        };
-        let zeros = (start[0].to_bits(), bits[0]);
+        let rated = if ring == 1 { (10, 0) } else { (0, 44_100) };
         tally.same(
             "listed: order, and zeros beside",
-            (given, zeros),
-            (number, (0, 0)),
+            beside(&long[..length], room, ring),
+            ((number, 0, 0), rated),
             || format!("{length} bytes, room {room}"),
         );
     }
