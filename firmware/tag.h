@@ -27,7 +27,7 @@ enum tag_number {
     TAG_CUT_OFF = 7,       /* the frame's data does not all remain */
     TAG_LONG_STREAM = 8,   /* stream above TAG_STREAM bytes */
     TAG_LITTLE_ROOM = 9,   /* memory under TAG_MEMORY or output under TAG_OUTPUT values */
-    TAG_BAD_STATE = 10     /* a state that no call leaves */
+    TAG_BAD_STATE = 10     /* a state out of the ranges of document 01 */
 };
 
 #define TAG_STREAM 16777216 /* bytes that a stream has at most */
