@@ -94,6 +94,25 @@ impl Audio {
         self.v.concat()
     }
 
+    /// One channel's half of the memory.
+    pub fn half(&self, ch: usize) -> &[f32] {
+        &self.v[ch]
+    }
+
+    /// Goes on at the same bit in another stream.
+    pub fn lend(&mut self, stream: &[u8]) {
+        let at = self.buffer.at();
+        self.buffer = Buffer::new(stream.to_vec());
+        self.buffer.stand(at);
+    }
+
+    /// Sets what `stand` leaves at the start: a pending header, and the frames decoded so far with the next start time.
+    pub fn resume(&mut self, pending: usize, frames: usize, time: f64) {
+        self.next_frame_data_size = pending;
+        self.samples_decoded = (frames * SAMPLES_PER_FRAME) as i64;
+        self.time = time;
+    }
+
     /// How many frames were decoded, and when the next one starts, in seconds.
     pub fn clock(&self) -> (usize, f64) {
         (self.samples_decoded as usize / SAMPLES_PER_FRAME, self.time)

@@ -2,6 +2,7 @@
 //! then 01's listing, each frame's line with the bits of its start time and a checksum of its samples.
 
 use crate::by_01::{by_01, decode_by_01, Reading};
+use crate::files::files;
 use crate::source::traced::audio::Audio;
 use crate::source::NO_FORMAT;
 use std::path::Path;
@@ -59,20 +60,9 @@ fn listing(stream: &[u8]) -> Vec<String> {
     }
 }
 
-pub fn print(folder: &Path) -> std::io::Result<()> {
-    let mut files = Vec::new();
-    for entry in std::fs::read_dir(folder)? {
-        let path = entry?.path();
-        if path.extension().is_some_and(|extension| extension == "mp2") {
-            files.push(path);
-        }
-    }
-    files.sort();
-    for path in files {
+pub fn print(folder: &Path) {
+    for (path, stream) in files(folder) {
         println!("{}", path.file_name().unwrap().to_string_lossy());
-        listing(&std::fs::read(&path)?)
-            .iter()
-            .for_each(|line| println!("{line}"));
+        listing(&stream).iter().for_each(|line| println!("{line}"));
     }
-    Ok(())
 }

@@ -36,6 +36,15 @@ impl Fields<'_> {
         self.at = found.map_or((from.max(last) + 1) * 8, |i| (i + 1) * 8 + 3);
         found.is_some()
     }
+
+    /// Aligns, passes zero bytes, and stands behind eleven ones: those that come next, or those of a search.
+    fn sync(&mut self) -> bool {
+        self.at = self.at.div_ceil(8) * 8;
+        while self.stream.get(self.at / 8) == Some(&0) {
+            self.at += 8;
+        }
+        self.field(11) == 0b111_1111_1111 || self.search()
+    }
 }
 
 const KBPS: [usize; 14] = [32, 48, 56, 64, 80, 96, 112, 128, 160, 192, 224, 256, 320, 384];
@@ -55,11 +64,7 @@ pub fn by_01(stream: &[u8], at: usize, known: Format) -> Reading {
     if r.left() < 48 {
         return refused(1, at);
     }
-    r.at = r.at.div_ceil(8) * 8;
-    while stream.get(r.at / 8) == Some(&0) {
-        r.at += 8;
-    }
-    if r.field(11) != 0b111_1111_1111 && !r.search() {
+    if !r.sync() {
         return refused(2, r.at);
     }
     let (version, layer, unprotected) = (r.field(2), r.field(2), r.field(1));

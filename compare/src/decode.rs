@@ -1,236 +1,328 @@
-//! Whole decoders: every call's number, state, start time and bits used, the memory and the output, by their bits,
-//! against the Rust's `Audio`. The numbers of refusals come from `by_01`.
+//! Whole decoders on classes of streams: what is called on them, and in which order. `both` compares each call.
 
-use crate::by_01::{by_01, decode_by_01};
-use crate::frames::{format, FORMATS};
+use crate::both::{number_of, state_of, Both, GUARD};
+use crate::classes::{payload, Clips, STREAMS};
+use crate::files::files;
+use crate::firmware::{Decoder, MEMORY, OUTPUT, STREAM};
+use crate::saved;
 use crate::seeded::Seeded;
-use crate::source::traced::audio::Audio;
-use crate::source::{Format, NO_FORMAT};
-use crate::tag::Decoder;
-use crate::tally::{first_difference, hex, Tally};
+use crate::tally::Tally;
+use std::time::Instant;
 
-/// Lent beyond what is asked for: it must stay.
-const SPARE: usize = 5;
-const SENTINEL: f32 = 12_345.678;
+/// Calls both until neither moves any more, and twice again, with the other two calls at seeded moments.
+fn to_the_end(both: &mut Both, stream: &[u8], s: &mut Seeded) {
+    let mut still = 0;
+    while still < 3 {
+        let before = both.state();
+        if s.below(3) == 0 {
+            both.samplerate(stream);
+        }
+        if s.below(4) == 0 {
+            both.has_header(stream);
+        }
+        both.decode(stream);
+        still = if both.state() == before { still + 1 } else { 0 };
+    }
+}
 
-/// The state as both sides have it: places, counts, the bits of the next start time.
-type State = ([usize; 6], [u32; 2], u64);
+fn whole(tally: &mut Tally, class: &str, name: &str, stream: &[u8], s: &mut Seeded) {
+    tally.stream(class);
+    let name = format!("{class}, {name}");
+    let beyond = s.one_of(&[0, 1, 5, 64]);
+    to_the_end(&mut Both::open(tally, &name, stream, beyond), stream, s);
+}
+
+/// Another stream is lent between calls, from where the decoder stands.
+fn changing(tally: &mut Tally, name: &str, clips: &Clips, s: &mut Seeded) {
+    let streams: Vec<Vec<u8>> = (0..2 + s.below(3))
+        .map(|_| {
+            let (_, make) = STREAMS[s.below(STREAMS.len())];
+            make(s, clips)
+        })
+        .collect();
+    let mut stream = &streams[0];
+    let both = &mut Both::open(tally, name, stream, 5);
+    for _ in 0..3 + s.below(10) {
+        stream = &streams[s.below(streams.len())];
+        both.lend(stream);
+        match s.below(8) {
+            0 => both.samplerate(stream),
+            1 => both.has_header(stream),
+            _ => both.decode(stream),
+        }
+    }
+}
+
+/// A stream that a saved state can stand in: a class's, or a payload without a header.
+fn under_a_state(clips: &Clips, s: &mut Seeded) -> Vec<u8> {
+    if s.below(3) == 0 {
+        let length = s.one_of(&[0, 60, 200, 1_000, 4_000]);
+        return payload(s, length);
+    }
+    let (_, make) = STREAMS[s.below(STREAMS.len())];
+    make(s, clips)
+}
+
+/// A state that no opening need have made.
+fn resumed(tally: &mut Tally, name: &str, clips: &Clips, s: &mut Seeded) {
+    let stream = under_a_state(clips, s);
+    let state = saved::in_range(s, stream.len());
+    let mut memory = saved::memory(s);
+    memory.resize(MEMORY + s.one_of(&[0, 5]), GUARD);
+    let both = &mut Both::resume(tally, name, &stream, state, memory);
+    both.samplerate(&stream);
+    if s.below(2) == 0 {
+        both.has_header(&stream);
+    }
+    for _ in 0..1 + s.below(3) {
+        both.decode(&stream);
+    }
+}
+
+/// One field out of range: every call gives 10 and leaves all.
+fn spoilt(tally: &mut Tally, name: &str, clips: &Clips, s: &mut Seeded) {
+    let stream = under_a_state(clips, s);
+    let mut d = saved::in_range(s, stream.len());
+    let (field, spoil) = saved::SPOILT[s.below(saved::SPOILT.len())];
+    spoil(s, &mut d);
+    let before = d;
+    let (memory, output) = (saved::memory(s), vec![GUARD; OUTPUT]);
+    let (mut lent_memory, mut lent_output) = (memory.clone(), output.clone());
+    let numbers = [
+        number_of(d.samplerate()),
+        number_of(d.has_header(&stream)),
+        number_of(d.decode(&stream, &mut lent_memory, &mut lent_output)),
+    ];
+    let left = (state_of(&d), bits(&lent_memory) == bits(&memory), lent_output == output);
+    tally.same(
+        "listed: 10 from all three",
+        (numbers, left),
+        ([10; 3], (state_of(&before), true, true)),
+        || format!("{name}, {field}, {before:?}"),
+    );
+}
 
 fn bits(values: &[f32]) -> Vec<u32> {
     values.iter().map(|value| value.to_bits()).collect()
 }
 
-fn source_state(audio: &Audio) -> State {
-    let f = audio.format();
-    let (frames, time) = audio.clock();
-    let places = [
-        audio.at(),
-        f.samplerate_index,
-        f.bitrate_index,
-        f.bound,
-        audio.pending(),
-        audio.ring(),
-    ];
-    (places, [f.mode as u32, frames as u32], time.to_bits())
-}
-
-fn our_state(d: &Decoder) -> State {
-    (d.places, d.counts, d.time[0].to_bits())
-}
-
-fn fresh() -> Decoder {
-    Decoder {
-        places: [77; 6],
-        counts: [77; 2],
-        time: [77.0],
-        memory: vec![SENTINEL; 2048 + SPARE],
-        output: vec![SENTINEL; 2304 + SPARE],
+/// Too little memory at the opening, too little memory or output among the calls: 9, and all is left.
+fn little_room(tally: &mut Tally, name: &str, clips: &Clips, s: &mut Seeded) {
+    let (_, make) = STREAMS[s.below(STREAMS.len())];
+    let stream = make(s, clips);
+    let less = |s: &mut Seeded, whole: usize| s.one_of(&[0, 1, whole / 2, whole - 1]);
+    let memory = saved::memory(s);
+    let mut lent = memory.clone();
+    let (d, opened) = Decoder::new(&stream, &mut lent[..less(s, MEMORY)]);
+    let fresh = ([0, 3, 0, 0, 0, 0], [0, 0], 0);
+    tally.same(
+        "listed: opening 9",
+        (number_of(opened), state_of(&d), bits(&lent) == bits(&memory)),
+        (9, fresh, true),
+        || name.to_string(),
+    );
+    let both = &mut Both::resume(tally, name, &stream, d, lent);
+    for _ in 0..2 + s.below(5) {
+        match s.below(4) {
+            0 => both.refused(&stream, 9, less(s, MEMORY), OUTPUT),
+            1 => both.refused(&stream, 9, MEMORY, less(s, OUTPUT)),
+            _ => both.decode(&stream),
+        }
     }
 }
 
-/// What the Rust's memory and output are, with the spare places behind them.
-fn lent(memory: &[f32], output: &[f32]) -> (Vec<u32>, Vec<u32>) {
-    let behind = |values: &[f32]| bits(&[values, &[SENTINEL; SPARE]].concat());
-    (behind(memory), behind(output))
+/// How a seed's stream is called: one class of each kind in turn.
+const CALLED: [(&str, fn(&mut Tally, &str, &Clips, &mut Seeded)); 4] = [
+    ("stream changed between calls", changing),
+    ("saved state in range", resumed),
+    ("saved state with a field out of range", spoilt),
+    ("little room", little_room),
+];
+
+/// The stream of one seed. The classes come in turn.
+fn seeded(tally: &mut Tally, seed: u64, clips: &Clips) {
+    let s = &mut Seeded::new(seed);
+    let turn = (seed % (STREAMS.len() + CALLED.len()) as u64) as usize;
+    if let Some((class, make)) = STREAMS.get(turn) {
+        let stream = make(s, clips);
+        return whole(tally, class, &format!("seed {seed}"), &stream, s);
+    }
+    let (class, call) = CALLED[turn - STREAMS.len()];
+    tally.stream(class);
+    call(tally, &format!("{class}, seed {seed}"), clips, s);
 }
 
-/// Opens both on a stream and calls both until neither moves any more, and twice again.
-fn run(tally: &mut Tally, class: &str, name: &str, stream: &[u8]) {
-    tally.stream(class);
-    let say = |call: usize| format!("{name}, call {call}, {}", hex(stream));
-    let mut ours = fresh();
-    let number = ours.open(stream);
-    let opening = by_01(stream, 0, NO_FORMAT);
-    let mut audio = Audio::new(stream.to_vec());
-    let mut output = vec![SENTINEL; 2304];
-    tally.same(
-        &format!("opening {}", opening.number),
-        (number, our_state(&ours)),
-        (opening.number, source_state(&audio)),
-        || say(0),
-    );
-    for call in 1.. {
-        tally.same("samplerate", ours.samplerate(), (0, audio.samplerate()), || say(call));
-        if call % 5 == 3 {
-            let told = if audio.knows_header() {
-                0
-            } else {
-                by_01(stream, audio.at(), NO_FORMAT).number
-            };
-            let number = ours.has_header(stream);
-            audio.has_header();
-            tally.same(
-                "has_header",
-                (number, our_state(&ours)),
-                (told, source_state(&audio)),
-                || say(call),
+fn published(tally: &mut Tally, class: &str, folder: &str) {
+    for (name, stream) in files(folder.as_ref()) {
+        whole(
+            tally,
+            class,
+            &name.to_string_lossy(),
+            &stream,
+            &mut Seeded::new(stream.len() as u64),
+        );
+    }
+}
+
+/// Each of the 2 × 65,536 headers over a payload that suffices for the smaller frames.
+fn every_header(tally: &mut Tally) {
+    for number in 0..131_072u64 {
+        let s = &mut Seeded::new(number);
+        let mut stream = (0xFFFC_0000u32 + number as u32).to_be_bytes().to_vec();
+        let length = s.one_of(&[2, 60, 110, 230]);
+        stream.extend(payload(s, length));
+        whole(tally, "every header", &format!("{number:05X}"), &stream, s);
+    }
+}
+
+/// The beginnings of several clips, cut at every byte.
+fn every_cut(tally: &mut Tally) {
+    let clips = [
+        "clips/citrus",
+        "crates/replay/data/check-44100-stereo",
+        "crates/replay/data/check-32-at-48000",
+        "crates/replay/data/joint-limit-27",
+        "crates/replay/data/padding-and-check",
+        "crates/replay/data/rate-32000-kbps-032-mode-2",
+        "crates/replay/data/incident-other-way",
+        "crates/replay/data/junk-almost",
+    ];
+    for clip in clips {
+        let stream = std::fs::read(format!("{clip}.mp2")).unwrap();
+        for kept in 0..stream.len().min(1_300) {
+            let name = format!("{clip}, {kept} bytes");
+            whole(
+                tally,
+                "clip cut at every byte",
+                &name,
+                &stream[..kept],
+                &mut Seeded::new(kept as u64),
             );
         }
-        let before = source_state(&audio);
-        let told = decode_by_01(stream, audio.at(), audio.format(), audio.pending());
-        let (number, start, used) = ours.decode(stream);
-        let frame = audio.decode();
-        let expected = match frame {
-            Some(samples) => {
-                output = samples.interleaved;
-                (0, samples.time.to_bits(), audio.used().1)
-            }
-            None => (told.number, 0, 0),
-        };
-        let state = source_state(&audio);
-        let answer = ((number, start.to_bits(), used), our_state(&ours));
-        tally.same(&format!("decode {}", told.number), answer, (expected, state), || {
-            say(call)
-        });
-        let (memory, sound) = lent(&audio.memory(), &output);
-        tally.same("memory", first_difference(&bits(&ours.memory), &memory), None, || {
-            say(call)
-        });
-        tally.same("output", first_difference(&bits(&ours.output), &sound), None, || {
-            say(call)
-        });
-        if state == before && call % 3 == 0 {
-            return;
-        }
     }
 }
 
-fn header(f: Format, extension: usize, s: &mut Seeded) -> (Vec<u8>, usize) {
-    let (check, padding) = (s.below(4) == 0, s.below(2));
-    let rates = (f.bitrate_index + 1) << 4 | f.samplerate_index << 2 | padding << 1 | s.below(2);
-    let mode = f.mode << 6 | extension << 4 | s.below(16);
-    let mut bytes = vec![0xFF, if check { 0xFC } else { 0xFD }, rates as u8, mode as u8];
-    if check {
-        bytes.extend([s.byte(), s.byte()]);
-    }
-    let kbps = [32, 48, 56, 64, 80, 96, 112, 128, 160, 192, 224, 256, 320, 384][f.bitrate_index];
-    let size = 144_000 * kbps / [44_100, 48_000, 32_000][f.samplerate_index] + padding - bytes.len();
-    (bytes, size)
-}
-
-/// Headers with payloads of few or many ones, sometimes of another format, with junk or zeros between, sometimes cut.
-fn seeded_stream(seed: u64) -> Vec<u8> {
-    let s = &mut Seeded::new(seed);
-    let own = format(seed as usize % FORMATS);
-    let mut stream = Vec::new();
-    for _ in 0..1 + s.below(5) {
-        match s.below(8) {
-            0 => stream.extend(vec![0; s.below(9)]),
-            1 => {
-                let junk = s.below(20);
-                stream.extend(s.bytes(junk, |s| s.one_of(&[0x00, 0xFF, 0xFC, 0xFD, 0xA0, 0x31])));
-            }
-            _ => {}
-        }
-        let f = if s.below(6) == 0 { format(s.below(FORMATS)) } else { own };
-        let extension = s.below(4);
-        let (bytes, size) = header(f, extension, s);
-        stream.extend(bytes);
-        let heads = s.below(3);
-        stream.extend(s.bytes(size, |s| match heads {
-            0 => s.byte() & s.byte() & s.byte() & s.byte(),
-            1 => s.byte() & s.byte() & s.byte(),
-            _ => s.byte(),
-        }));
-    }
-    if s.below(3) == 0 {
-        let kept = s.below(stream.len() + 1);
-        stream.truncate(kept);
-    }
-    stream
-}
-
-/// 01's refusals 8, 9 and 10, which the Rust does not have: nothing changes.
-fn refused(tally: &mut Tally, stream: &[u8]) {
-    type Spoil = (u32, &'static str, fn(&mut Decoder));
-    let spoilt: [Spoil; 14] = [
-        (9, "memory of 2047", |d| d.memory.truncate(2047)),
-        (9, "output of 2303", |d| d.output.truncate(2303)),
-        (10, "position", |d| d.places[0] = 134_217_737),
-        (10, "frames", |d| d.counts[1] = (d.places[0] / 16) as u32 + 1),
-        (10, "sample-rate code", |d| d.places[1] = 4),
-        (10, "bit-rate index", |d| d.places[2] = 14),
-        (10, "mode", |d| d.counts[0] = 4),
-        (10, "bound", |d| d.places[3] = 33),
-        (10, "bound in mono", |d| (d.counts[0], d.places[3]) = (3, 4)),
-        (10, "pending size", |d| d.places[4] = 89),
-        (10, "ring position", |d| d.places[5] = 32),
-        (10, "ring position past its end", |d| d.places[5] = 1024),
-        (10, "time not a number", |d| d.time[0] = f64::NAN),
-        (10, "time one bit off", |d| {
-            d.time[0] = f64::from_bits(d.time[0].to_bits() + 1)
-        }),
+/// The longest stream, of zeros, of FF, and of junk with a frame at its end; and one byte more.
+fn longest(tally: &mut Tally) {
+    let frame = [&[0xFF, 0xFD, 0x10, 0xC0, 0x10, 0x00, 0x00, 0x20][..], &[0x5A; 96]].concat();
+    let at_the_end = |fill: u8| {
+        let mut stream = vec![fill; STREAM];
+        stream[STREAM - frame.len()..].copy_from_slice(&frame);
+        stream
+    };
+    let named = [
+        ("zeros", vec![0; STREAM]),
+        ("zeros, then a frame", at_the_end(0)),
+        ("junk, then a frame", at_the_end(0x31)),
     ];
-    for (number, name, spoil) in spoilt {
-        let mut d = fresh();
-        d.open(stream);
-        d.decode(stream);
-        spoil(&mut d);
-        let (state, memory, output) = (our_state(&d), bits(&d.memory), bits(&d.output));
-        let (given, ..) = d.decode(stream);
-        let after = (
-            given,
-            our_state(&d),
-            bits(&d.memory) == memory,
-            bits(&d.output) == output,
-        );
-        tally.same(
-            &format!("listed, P5 and P7: refused with {number}"),
-            after,
-            (number, state, true, true),
-            || name.to_string(),
-        );
+    for (name, stream) in &named {
+        whole(tally, "16,777,216 bytes", name, stream, &mut Seeded::new(1));
     }
-    let long = vec![0xFF; 16_777_217];
-    let mut d = fresh();
-    let (memory, output) = (bits(&d.memory), bits(&d.output));
-    let opened = d.open(&long);
-    let decoded = d.decode(&long).0;
-    let after = (opened, decoded, bits(&d.memory) == memory, bits(&d.output) == output);
-    tally.same("listed, P1: refused with 8", after, (8, 8, true, true), || {
-        "16,777,217 bytes".to_string()
-    });
+    tally.stream("16,777,216 bytes");
+    let ones = vec![0xFF; STREAM];
+    let both = &mut Both::open(tally, "bytes FF", &ones, 0);
+    (0..200).for_each(|_| both.decode(&ones));
+    too_long(tally, frame);
 }
 
-pub fn compare(tally: &mut Tally, count: usize) {
-    println!(
-        "decode: whole decoders on the streams of streams/ and {count} seeded ones: every call's number, state, start"
+/// A stream too long: 8 before all else, and all is left.
+fn too_long(tally: &mut Tally, frame: Vec<u8>) {
+    tally.stream("16,777,217 bytes");
+    let mut long = frame.clone();
+    long.resize(STREAM + 1, 0);
+    let mut memory = vec![GUARD; MEMORY];
+    let (mut d, opened) = Decoder::new(&long, &mut memory);
+    let headed = number_of(d.has_header(&long));
+    let fresh = ([0, 3, 0, 0, 0, 0], [0, 0], 0);
+    tally.same(
+        "listed: opening 8",
+        (number_of(opened), headed, state_of(&d), memory == vec![GUARD; MEMORY]),
+        (8, 8, fresh, true),
+        || "opening".to_string(),
     );
-    println!("time and bits used, memory and output, and what is lent beyond them");
-    let mut files: Vec<_> = std::fs::read_dir("streams")
-        .unwrap()
-        .map(|entry| entry.unwrap().path())
-        .collect();
-    files.retain(|path| path.extension().is_some_and(|extension| extension == "mp2"));
-    files.sort();
-    for path in files {
-        let stream = std::fs::read(&path).unwrap();
-        run(tally, "files of streams/", &path.to_string_lossy(), &stream);
+    let both = &mut Both::open(tally, "16,777,217 bytes among the calls", &frame, 5);
+    for (memory, output) in [(MEMORY, OUTPUT), (0, OUTPUT), (MEMORY, 0)] {
+        both.refused(&long, 8, memory, output);
     }
-    for seed in 0..count as u64 {
-        run(tally, "seeded", &format!("seed {seed}"), &seeded_stream(seed));
+    both.decode(&frame);
+    both.refused(&long, 8, MEMORY, OUTPUT);
+    both.header_refused(&long, 8);
+}
+
+/// Both calls that leave numbers beside their answer, past the wrapper, from a state that knows a header: the answers of
+/// decode and samplerate, each with what stands beside it.
+fn beside(stream: &[u8], room: usize, ring: usize) -> ((u32, u64, usize), (u32, u32)) {
+    use crate::firmware::boundary::{tag_decode, tag_samplerate};
+    let (mut places, mut counts, mut time) = ([0, 0, 0, 0, 0, ring], [0; 2], [0.0]);
+    let (mut memory, mut output) = ([GUARD; MEMORY], [GUARD; OUTPUT]);
+    let (mut rate, mut start, mut bits) = ([7], [-1.0], [7]);
+    let (data, length) = (stream.as_ptr(), stream.len());
+    let (ring, sound) = (memory.as_mut_ptr(), output.as_mut_ptr());
+    let (places, counts, time) = (&mut places, &mut counts, &mut time);
+    let rated = unsafe { tag_samplerate(places, counts, time, &mut rate) };
+    let (start_at, bits_at) = (&mut start, &mut bits);
+    let number = unsafe {
+        tag_decode(
+            data, length, ring, room, sound, OUTPUT, places, counts, time, start_at, bits_at,
+        )
+    };
+    ((number, start[0].to_bits(), bits[0]), (rated, rate[0]))
+}
+
+/// Where two refusals hold, 01's order decides: 8, 9, 10. Beside each there are zeros.
+fn order(tally: &mut Tally) {
+    tally.stream("two refusals at once");
+    let long = vec![0; STREAM + 1];
+    for (length, room, ring, number) in [
+        (STREAM + 1, 0, 1, 8),
+        (STREAM + 1, MEMORY, 1, 8),
+        (STREAM, 0, 1, 9),
+        (STREAM, MEMORY, 1, 10),
+        (0, MEMORY, 0, 1),
+    ] {
+        let rated = if ring == 1 { (10, 0) } else { (0, 44_100) };
+        tally.same(
+            "listed: order, and zeros beside",
+            beside(&long[..length], room, ring),
+            ((number, 0, 0), rated),
+            || format!("{length} bytes, room {room}"),
+        );
     }
-    let mut example = vec![0xFF, 0xFD, 0xA0, 0x00];
-    example.resize(3_000, 0);
-    refused(tally, &example);
+}
+
+/// Seeds from `first` on, so many; gives the seconds that they took.
+fn run(tally: &mut Tally, first: u64, count: u64) -> f64 {
+    let clips = Clips::load();
+    let began = Instant::now();
+    for seed in first..first + count {
+        seeded(tally, seed, &clips);
+    }
+    began.elapsed().as_secs_f64()
+}
+
+/// decode [COUNT], soak [COUNT [SEED]] or published FOLDER.
+pub fn compare(tally: &mut Tally, words: &[String]) {
+    println!(
+        "decode: whole decoders: every call's number, state, start time and bits used, memory and output, and what"
+    );
+    println!("is lent beyond them");
+    let number = |at: usize| words.get(at).map(|word| word.parse::<u64>().expect("a number"));
+    match words.first().map(String::as_str) {
+        Some("published") => published(tally, "published", &words[1]),
+        Some("soak") => {
+            let clock = std::time::UNIX_EPOCH.elapsed().unwrap().as_secs();
+            let (count, first) = (number(1).unwrap_or(1_000_000), number(2).unwrap_or(clock << 20));
+            println!("seeds {first} to {}", first + count - 1);
+            let took = run(tally, first, count);
+            println!("{took:.0} seconds");
+        }
+        _ => {
+            published(tally, "files of crates/replay/data", "crates/replay/data");
+            every_header(tally);
+            every_cut(tally);
+            longest(tally);
+            order(tally);
+            run(tally, 0, number(0).unwrap_or(300_000));
+        }
+    }
 }

@@ -5,41 +5,68 @@
 mod answers;
 #[cfg(layer = "bench")]
 mod bench;
+#[cfg(layer = "decode")]
+mod both;
 #[cfg(any(layer = "answers", layer = "header", layer = "decode"))]
 mod by_01;
+#[cfg(layer = "decode")]
+mod classes;
+#[cfg(layer = "bench")]
+mod clock;
 #[cfg(layer = "codes")]
 mod codes;
 #[cfg(layer = "decode")]
 mod decode;
+#[cfg(any(layer = "answers", layer = "decode", layer = "bench"))]
+mod files;
+#[cfg(any(layer = "decode", layer = "bench"))]
+#[path = "../../firmware/tag.rs"]
+mod firmware;
 #[cfg(any(layer = "codes", layer = "sound", layer = "decode"))]
 mod frames;
+#[cfg(layer = "bench")]
+mod grow;
 #[cfg(layer = "header")]
 mod header;
 #[cfg(layer = "reader")]
 mod reader;
+#[cfg(layer = "decode")]
+mod saved;
 #[cfg(not(layer = "answers"))]
 mod seeded;
 #[cfg(layer = "sound")]
 mod sound;
 mod source;
-#[cfg(not(layer = "answers"))]
+#[cfg(not(any(layer = "answers", layer = "decode")))]
 mod tag;
 #[cfg(not(any(layer = "answers", layer = "bench")))]
 mod tally;
+#[cfg(layer = "bench")]
+mod wave;
 
 #[cfg(layer = "answers")]
-fn main() -> std::io::Result<()> {
+fn main() {
     let folder = std::env::args().nth(1).expect("a folder of streams");
-    answers::print(folder.as_ref())
+    answers::print(folder.as_ref());
 }
 
 #[cfg(layer = "bench")]
 fn main() {
-    bench::reader();
+    let words: Vec<String> = std::env::args().skip(1).collect();
+    match &words.iter().map(String::as_str).collect::<Vec<_>>()[..] {
+        ["wave", path] => wave::write(path.as_ref()).unwrap(),
+        ["grow", folder] => grow::print(folder.as_ref()),
+        [folder, rounds] => {
+            bench::reader();
+            bench::streams(folder.as_ref(), rounds.parse().expect("a number of rounds"));
+        }
+        _ => panic!("wave FILE, grow FOLDER, or FOLDER ROUNDS"),
+    }
 }
 
 #[cfg(not(any(layer = "answers", layer = "bench")))]
 fn main() {
+    #[cfg(not(layer = "decode"))]
     let count: Option<usize> = std::env::args().nth(1).and_then(|word| word.parse().ok());
     let mut tally = tally::Tally::default();
     #[cfg(layer = "reader")]
@@ -51,6 +78,6 @@ fn main() {
     #[cfg(layer = "sound")]
     sound::compare(&mut tally, count.unwrap_or(1_000_000));
     #[cfg(layer = "decode")]
-    decode::compare(&mut tally, count.unwrap_or(100_000));
+    decode::compare(&mut tally, &std::env::args().skip(1).collect::<Vec<_>>());
     std::process::exit(tally.close());
 }

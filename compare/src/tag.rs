@@ -1,4 +1,5 @@
-//! The static libraries' functions, with a slice passed as a pointer and a length, an array as a pointer.
+//! The static libraries' functions, with a slice passed as a pointer and a length, an array as a pointer. The decoder's
+//! four calls go by the wrapper that firmware uses, ../../firmware/tag.rs.
 
 mod boundary {
     extern "C" {
@@ -57,45 +58,6 @@ mod boundary {
             output_length: usize,
             at: usize,
         ) -> usize;
-        #[cfg(layer = "decode")]
-        pub fn tag_open(
-            stream: *const u8,
-            length: usize,
-            memory: *mut f32,
-            memory_length: usize,
-            places: *mut [usize; 6],
-            counts: *mut [u32; 2],
-            time: *mut [f64; 1],
-        ) -> u32;
-        #[cfg(layer = "decode")]
-        pub fn tag_has_header(
-            stream: *const u8,
-            length: usize,
-            places: *mut [usize; 6],
-            counts: *mut [u32; 2],
-            time: *mut [f64; 1],
-        ) -> u32;
-        #[cfg(layer = "decode")]
-        pub fn tag_samplerate(
-            places: *const [usize; 6],
-            counts: *const [u32; 2],
-            time: *const [f64; 1],
-            rate: *mut [u32; 1],
-        ) -> u32;
-        #[cfg(layer = "decode")]
-        pub fn tag_decode(
-            stream: *const u8,
-            length: usize,
-            memory: *mut f32,
-            memory_length: usize,
-            output: *mut f32,
-            output_length: usize,
-            places: *mut [usize; 6],
-            counts: *mut [u32; 2],
-            time: *mut [f64; 1],
-            start: *mut [f64; 1],
-            bits: *mut [usize; 1],
-        ) -> u32;
     }
 }
 
@@ -135,63 +97,35 @@ pub struct Read {
     pub samples: [[i32; 192]; 12],
 }
 
+/// The limit of subbands, the allocation table and the bound, cut to the limit.
+#[cfg(any(layer = "codes", layer = "sound"))]
+fn layout(f: crate::source::Format) -> [usize; 3] {
+    let mut layout = [0; 3];
+    unsafe { boundary::probe_layout(f.mode as u32, f.bitrate_index, f.samplerate_index, f.bound, &mut layout) };
+    layout
+}
+
 /// A frame of that format from bit `at`.
 #[cfg(any(layer = "codes", layer = "sound"))]
 pub fn frame(stream: &[u8], at: usize, format: crate::source::Format) -> Read {
-    let mut layout = [0; 3];
-    let mode = format.mode as u32;
-    unsafe {
-        boundary::probe_layout(
-            mode,
-            format.bitrate_index,
-            format.samplerate_index,
-            format.bound,
-            &mut layout,
-        )
-    };
-    let [limit, table, bound] = layout;
-    let (data, length) = (stream.as_ptr(), stream.len());
-    let (mut quant, mut factor) = ([0xFF; 64], [u32::MAX; 192]);
-    let mut end = unsafe {
-        boundary::probe_side(
-            data,
-            length,
-            at,
-            mode == 3,
-            table,
-            bound,
-            limit,
-            &mut quant,
-            &mut factor,
-        )
-    };
-    let mut ends = [end; 13];
-    let samples = std::array::from_fn(|granule| {
-        let mut sample = [0; 192];
-        end = unsafe {
-            boundary::probe_granule(
-                data,
-                length,
-                end,
-                &quant,
-                &factor,
-                granule / 4,
-                bound,
-                limit,
-                &mut sample,
-            )
-        };
-        ends[granule + 1] = end;
-        sample
-    });
-    Read {
+    let [limit, table, bound] = layout(format);
+    let (data, length, mono) = (stream.as_ptr(), stream.len(), format.mode == 3);
+    let mut read = Read {
         limit,
         bound,
-        quant,
-        factor,
-        ends,
-        samples,
+        quant: [0xFF; 64],
+        factor: [u32::MAX; 192],
+        ends: [0; 13],
+        samples: [[0; 192]; 12],
+    };
+    let (quant, factor) = (&mut read.quant, &mut read.factor);
+    read.ends[0] = unsafe { boundary::probe_side(data, length, at, mono, table, bound, limit, quant, factor) };
+    for granule in 0..12 {
+        let (at, part, sample) = (read.ends[granule], granule / 4, &mut read.samples[granule]);
+        read.ends[granule + 1] =
+            unsafe { boundary::probe_granule(data, length, at, quant, factor, part, bound, limit, sample) };
     }
+    read
 }
 
 /// A granule's sound, to the output from `at` on; gives the ring position after it.
@@ -199,62 +133,4 @@ pub fn frame(stream: &[u8], at: usize, format: crate::source::Format) -> Read {
 pub fn synthesize(memory: &mut [f32], p: usize, sample: &[i32; 192], output: &mut [f32], at: usize) -> usize {
     let (ring, room) = (memory.len(), output.len());
     unsafe { boundary::probe_synthesize(memory.as_mut_ptr(), ring, p, sample, output.as_mut_ptr(), room, at) }
-}
-
-/// The port's decoder: its state as the boundary has it, and what is lent to it.
-#[cfg(layer = "decode")]
-pub struct Decoder {
-    /// Bit position, sample-rate code, bit-rate index, bound, pending data size, ring position.
-    pub places: [usize; 6],
-    /// Mode, frames.
-    pub counts: [u32; 2],
-    /// When the next frame starts.
-    pub time: [f64; 1],
-    pub memory: Vec<f32>,
-    pub output: Vec<f32>,
-}
-
-#[cfg(layer = "decode")]
-impl Decoder {
-    pub fn open(&mut self, stream: &[u8]) -> u32 {
-        let (memory, room) = (self.memory.as_mut_ptr(), self.memory.len());
-        let (places, counts, time) = (&mut self.places, &mut self.counts, &mut self.time);
-        unsafe { boundary::tag_open(stream.as_ptr(), stream.len(), memory, room, places, counts, time) }
-    }
-
-    pub fn has_header(&mut self, stream: &[u8]) -> u32 {
-        let (places, counts, time) = (&mut self.places, &mut self.counts, &mut self.time);
-        unsafe { boundary::tag_has_header(stream.as_ptr(), stream.len(), places, counts, time) }
-    }
-
-    /// The number and the rate.
-    pub fn samplerate(&self) -> (u32, u32) {
-        let mut rate = [u32::MAX];
-        let number = unsafe { boundary::tag_samplerate(&self.places, &self.counts, &self.time, &mut rate) };
-        (number, rate[0])
-    }
-
-    /// The number; for a frame its start time and the bits that it used, beside a refusal zeros.
-    pub fn decode(&mut self, stream: &[u8]) -> (u32, f64, usize) {
-        let (mut start, mut bits) = ([-1.0], [usize::MAX]);
-        let (memory, memory_length) = (self.memory.as_mut_ptr(), self.memory.len());
-        let (output, output_length) = (self.output.as_mut_ptr(), self.output.len());
-        let (places, counts, time) = (&mut self.places, &mut self.counts, &mut self.time);
-        let number = unsafe {
-            boundary::tag_decode(
-                stream.as_ptr(),
-                stream.len(),
-                memory,
-                memory_length,
-                output,
-                output_length,
-                places,
-                counts,
-                time,
-                &mut start,
-                &mut bits,
-            )
-        };
-        (number, start[0], bits[0])
-    }
 }

@@ -1,0 +1,208 @@
+//! The port's decoder and the Rust's side by side. Each call is made on both, and everything is compared: the number,
+//! the state with the bits of its time, a frame's start and the bits it used, memory and output by their bits, and
+//! what is lent beyond them. The Rust answers a refusal with None; its number is told by `by_01`.
+
+use crate::by_01::{by_01, decode_by_01};
+use crate::firmware::{Decoder, Refusal, MEMORY, OUTPUT};
+use crate::source::traced::audio::Audio;
+use crate::source::{Format, NO_FORMAT};
+use crate::tally::{hex, Tally};
+
+/// Stands in what is lent beyond what a call asks for, and in an output that no frame has reached.
+pub const GUARD: f32 = 12_345.678;
+
+/// The state as both sides have it: places, counts, the bits of the next start time.
+pub type State = ([usize; 6], [u32; 2], u64);
+
+pub struct Both<'a> {
+    tally: &'a mut Tally,
+    /// What is said of a difference: the class and the seed or file.
+    name: &'a str,
+    calls: usize,
+    pub ours: Decoder,
+    pub memory: Vec<f32>,
+    pub output: Vec<f32>,
+    audio: Audio,
+    /// The Rust's last frame.
+    heard: Vec<f32>,
+}
+
+pub fn state_of(d: &Decoder) -> State {
+    (d.places, d.counts, d.time[0].to_bits())
+}
+
+pub fn number_of<T>(answer: Result<T, Refusal>) -> u32 {
+    answer.err().map_or(0, |refusal| refusal.0)
+}
+
+fn source_state(audio: &Audio) -> State {
+    let f = audio.format();
+    let (frames, time) = audio.clock();
+    let places = [
+        audio.at(),
+        f.samplerate_index,
+        f.bitrate_index,
+        f.bound,
+        audio.pending(),
+        audio.ring(),
+    ];
+    (places, [f.mode as u32, frames as u32], time.to_bits())
+}
+
+/// A value's bits. Two NaNs count as the same: which bits a NaN has is no promise of a processor, or of the Rust. Only a
+/// memory that no opening cleared can lead to one.
+fn key(value: &f32) -> u32 {
+    if value.is_nan() {
+        f32::NAN.to_bits()
+    } else {
+        value.to_bits()
+    }
+}
+
+/// The first place where what is lent differs in a bit from the parts that are expected, or behind them from the guard,
+/// with the bits of both.
+fn difference(lent: &[f32], expected: &[&[f32]]) -> Option<(usize, u32, u32)> {
+    let mut at = 0;
+    let guard = vec![GUARD; lent.len() - expected.iter().map(|part| part.len()).sum::<usize>()];
+    for part in expected.iter().chain([&&guard[..]]) {
+        let pairs = lent[at..].iter().zip(*part).map(|(a, b)| (key(a), key(b)));
+        if pairs.clone().fold(0, |all, (a, b)| all | (a ^ b)) != 0 {
+            return (at..)
+                .zip(pairs)
+                .find(|(_, (a, b))| a != b)
+                .map(|(i, (a, b))| (i, a, b));
+        }
+        at += part.len();
+    }
+    None
+}
+
+impl<'a> Both<'a> {
+    /// Opens both on a stream, with so many values lent beyond memory and output.
+    pub fn open(tally: &'a mut Tally, name: &'a str, stream: &[u8], beyond: usize) -> Self {
+        let mut memory = vec![GUARD; MEMORY + beyond];
+        let (ours, opened) = Decoder::new(stream, &mut memory);
+        let mut both = Both {
+            tally,
+            name,
+            calls: 0,
+            ours,
+            memory,
+            output: vec![GUARD; OUTPUT + beyond],
+            audio: Audio::new(stream.to_vec()),
+            heard: vec![GUARD; OUTPUT],
+        };
+        let told = by_01(stream, 0, NO_FORMAT).number;
+        both.answered("opening", told, number_of(opened), told, stream);
+        both.values(stream);
+        both
+    }
+
+    /// Takes up a state that is in range, with its memory: 2,048 values and the guard.
+    pub fn resume(tally: &'a mut Tally, name: &'a str, stream: &[u8], ours: Decoder, memory: Vec<f32>) -> Self {
+        let [at, samplerate_index, bitrate_index, bound, pending, ring] = ours.places;
+        let mode = ours.counts[0] as usize;
+        let mut audio = Audio::new(Vec::new());
+        let format = Format {
+            samplerate_index,
+            bitrate_index,
+            mode,
+            bound,
+        };
+        audio.stand(stream, at, format);
+        audio.resume(pending, ours.counts[1] as usize, ours.time[0]);
+        audio.sound_from(ring, &memory);
+        Both {
+            tally,
+            name,
+            calls: 0,
+            ours,
+            output: vec![GUARD; OUTPUT + memory.len() - MEMORY],
+            memory,
+            audio,
+            heard: vec![GUARD; OUTPUT],
+        }
+    }
+
+    pub fn state(&self) -> State {
+        state_of(&self.ours)
+    }
+
+    fn say(name: &str, calls: usize, stream: &[u8]) -> String {
+        format!("{name}, call {calls}, {}", hex(stream))
+    }
+
+    /// Compares an answer and the state after it; `number` is the one that groups it.
+    fn answered<T: PartialEq + std::fmt::Debug>(&mut self, call: &str, number: u32, ours: T, told: T, stream: &[u8]) {
+        self.calls += 1;
+        let after = source_state(&self.audio);
+        let (name, calls, state) = (self.name, self.calls, self.state());
+        self.tally
+            .same(&format!("{call} {number}"), (ours, state), (told, after), || {
+                Self::say(name, calls, stream)
+            });
+    }
+
+    /// Compares memory and output.
+    fn values(&mut self, stream: &[u8]) {
+        let (name, calls) = (self.name, self.calls);
+        let memory = difference(&self.memory, &[self.audio.half(0), self.audio.half(1)]);
+        self.tally
+            .same("memory", memory, None, || Self::say(name, calls, stream));
+        let output = difference(&self.output, &[&self.heard]);
+        self.tally
+            .same("output", output, None, || Self::say(name, calls, stream));
+    }
+
+    /// Goes on in another stream, from the same bit.
+    pub fn lend(&mut self, stream: &[u8]) {
+        self.audio.lend(stream);
+    }
+
+    pub fn samplerate(&mut self, stream: &[u8]) {
+        let (ours, told) = (self.ours.samplerate(), Ok(self.audio.samplerate()));
+        self.answered("samplerate", 0, ours, told, stream);
+    }
+
+    pub fn has_header(&mut self, stream: &[u8]) {
+        let told = match self.audio.knows_header() {
+            true => 0,
+            false => by_01(stream, self.audio.at(), NO_FORMAT).number,
+        };
+        let ours = number_of(self.ours.has_header(stream));
+        self.audio.has_header();
+        self.answered("has_header", told, ours, told, stream);
+    }
+
+    /// One decode call on both.
+    pub fn decode(&mut self, stream: &[u8]) {
+        let reading = decode_by_01(stream, self.audio.at(), self.audio.format(), self.audio.pending());
+        let answer = self.ours.decode(stream, &mut self.memory, &mut self.output);
+        let ours = answer.map(|frame| (frame.start.to_bits(), frame.bits));
+        let told = match self.audio.decode() {
+            Some(samples) => {
+                self.heard = samples.interleaved;
+                Ok((samples.time.to_bits(), self.audio.used().1))
+            }
+            None => Err(Refusal(reading.number)),
+        };
+        self.answered("decode", reading.number, ours, told, stream);
+        self.values(stream);
+    }
+
+    /// A decode call with so much of memory and output that the port must refuse it: the Rust is not called.
+    pub fn refused(&mut self, stream: &[u8], number: u32, memory: usize, output: usize) {
+        let answer = self
+            .ours
+            .decode(stream, &mut self.memory[..memory], &mut self.output[..output]);
+        let ours = answer.map(|frame| (frame.start.to_bits(), frame.bits));
+        self.answered("listed: decode", number, ours, Err(Refusal(number)), stream);
+        self.values(stream);
+    }
+
+    /// The same for has_header.
+    pub fn header_refused(&mut self, stream: &[u8], number: u32) {
+        let ours = number_of(self.ours.has_header(stream));
+        self.answered("listed: has_header", number, ours, number, stream);
+    }
+}

@@ -1,0 +1,129 @@
+//! Saved states: every field drawn within 01's ranges, and the same with one field out of its range.
+
+use crate::firmware::{Decoder, MEMORY};
+use crate::seeded::Seeded;
+
+/// 01's farthest position, in bits.
+pub const FARTHEST: usize = 134_217_736;
+
+/// 01: frames times 1152, divided once by the rate.
+fn time(frames: u32, code: usize) -> f64 {
+    match code {
+        3 => 0.0,
+        _ => (frames as u64 * 1152) as f64 / [44_100.0, 48_000.0, 32_000.0][code],
+    }
+}
+
+/// A state in range, for a stream of that many bytes: mostly one that stands in the stream, on a byte or off it.
+pub fn in_range(s: &mut Seeded, length: usize) -> Decoder {
+    let at = match s.below(16) {
+        0 => s.below(FARTHEST + 1),
+        1 => FARTHEST - s.below(20),
+        2 => 8 * length + s.below(20),
+        3..=7 => s.below(8 * length + 1),
+        8 => 0,
+        _ => s.below(length + 1) * 8,
+    };
+    let at = at.min(FARTHEST);
+    let code = s.below(4);
+    let known = code != 3;
+    let mode = s.below(4);
+    let frames = match s.below(4) {
+        0 => at / 16,
+        1 => 0,
+        _ => s.below(at / 16 + 1),
+    };
+    let frames = if known { frames as u32 } else { 0 };
+    let pending = match s.below(4) {
+        0 => 90,
+        1 => s.one_of(&[91, 100, 204, 1_725]),
+        2 => 90 + s.below(1_636),
+        _ => 0,
+    };
+    let bound = if mode == 3 { 0 } else { s.below(33) };
+    let pending = if known { pending } else { 0 };
+    Decoder {
+        places: [at, code, s.below(14), bound, pending, 64 * s.below(16)],
+        counts: [mode as u32, frames],
+        time: [time(frames, code)],
+    }
+}
+
+/// A memory of numbers, of zeros of both signs, of sizes far apart, or of anything that an f32 can be.
+pub fn memory(s: &mut Seeded) -> Vec<f32> {
+    let kind = s.below(5);
+    let value = |s: &mut Seeded| {
+        let number = s.below(1 << 24) as f32 - 8_388_608.0;
+        match kind {
+            0 => s.one_of(&[0.0, -0.0]),
+            1 => number * s.one_of(&[1e-45, 1e-20, 1.0, 1e20]),
+            2 => number / 16.0,
+            3 => f32::from_bits(s.below(1 << 32) as u32),
+            _ => number * 64.0,
+        }
+    };
+    (0..MEMORY).map(|_| value(s)).collect()
+}
+
+type Spoil = (&'static str, fn(&mut Seeded, &mut Decoder));
+
+/// Each part of 01's paragraph "State in range", broken alone.
+pub const SPOILT: [Spoil; 15] = [
+    ("position", |s, d| {
+        d.places[0] = FARTHEST + 1 + s.one_of(&[0, 1, 7, 1 << 32, 1 << 60])
+    }),
+    ("frames", |s, d| {
+        d.counts[1] = (d.places[0] / 16 + 1) as u32 + s.one_of(&[0, 1, 1 << 30]);
+        d.time[0] = time(d.counts[1], d.places[1]);
+    }),
+    ("sample-rate code", |s, d| {
+        d.places[1] = 4 + s.one_of(&[0, 1, 1 << 32, 1 << 60])
+    }),
+    ("bit-rate index", |s, d| d.places[2] = 14 + s.one_of(&[0, 1, 1 << 32])),
+    ("mode", |s, d| d.counts[0] = 4 + s.one_of(&[0, 1, 1 << 20])),
+    ("bound", |s, d| {
+        (d.counts[0], d.places[3]) = (0, 33 + s.one_of(&[0, 31, 1 << 32]))
+    }),
+    ("bound in mono", |s, d| {
+        (d.counts[0], d.places[3]) = (3, 1 + s.below(32))
+    }),
+    ("ring position off a slot", |s, d| d.places[5] += 1 + s.below(63)),
+    ("ring position past its end", |s, d| {
+        d.places[5] = 1_024 + s.one_of(&[0, 64, 1 << 32])
+    }),
+    ("pending size below", |s, d| {
+        (d.places[1], d.places[4]) = known(d, 1 + s.below(89))
+    }),
+    ("pending size above", |s, d| {
+        (d.places[1], d.places[4]) = known(d, 1_726 + s.one_of(&[0, 1, 1 << 32]))
+    }),
+    ("pending without a header", |s, d| {
+        no_header(d);
+        d.places[4] = 90 + s.below(1_636);
+    }),
+    ("frames without a header", |s, d| {
+        no_header(d);
+        d.places[0] = d.places[0].max(32);
+        d.counts[1] = 1 + s.below(2) as u32;
+    }),
+    ("time off by a bit", |s, d| {
+        d.time[0] = f64::from_bits(d.time[0].to_bits() ^ 1 << s.below(64));
+    }),
+    ("time not a number", |s, d| {
+        d.time[0] = s.one_of(&[f64::NAN, -f64::NAN, f64::INFINITY])
+    }),
+];
+
+/// A state with a header, so that only the pending size is out of range.
+fn known(d: &mut Decoder, pending: usize) -> (usize, usize) {
+    let code = d.places[1] % 3;
+    d.time[0] = time(d.counts[1], code);
+    (code, pending)
+}
+
+fn no_header(d: &mut Decoder) {
+    d.places[1] = 3;
+    d.places[4] = 0;
+    d.counts[1] = 0;
+    d.time[0] = 0.0;
+}

@@ -1,0 +1,150 @@
+//! The decoder's four calls, for Rust. Link target/staticlib/libtag.a, which `rt staticlib tag` writes. tag.h has the
+//! same calls for C and says what the numbers mean. No allocation, no panic; `core` is enough.
+#![allow(dead_code)]
+
+pub const STREAM: usize = 16_777_216;
+pub const MEMORY: usize = 2_048;
+pub const OUTPUT: usize = 2_304;
+
+/// The calls themselves. A slice is lent as a pointer and a length, an array as a pointer.
+pub mod boundary {
+    extern "C" {
+        pub fn tag_open(
+            stream: *const u8,
+            length: usize,
+            memory: *mut f32,
+            memory_count: usize,
+            places: *mut [usize; 6],
+            counts: *mut [u32; 2],
+            time: *mut [f64; 1],
+        ) -> u32;
+        pub fn tag_has_header(
+            stream: *const u8,
+            length: usize,
+            places: *mut [usize; 6],
+            counts: *mut [u32; 2],
+            time: *mut [f64; 1],
+        ) -> u32;
+        pub fn tag_samplerate(
+            places: *const [usize; 6],
+            counts: *const [u32; 2],
+            time: *const [f64; 1],
+            rate: *mut [u32; 1],
+        ) -> u32;
+        pub fn tag_decode(
+            stream: *const u8,
+            length: usize,
+            memory: *mut f32,
+            memory_count: usize,
+            output: *mut f32,
+            output_count: usize,
+            places: *mut [usize; 6],
+            counts: *mut [u32; 2],
+            time: *mut [f64; 1],
+            start: *mut [f64; 1],
+            bits: *mut [usize; 1],
+        ) -> u32;
+    }
+}
+
+/// Why a call did not do what it was asked for: document 01's number, 1 to 10.
+#[derive(Clone, Copy, Debug, PartialEq, Eq)]
+pub struct Refusal(pub u32);
+
+impl Refusal {
+    pub const END: Refusal = Refusal(1);
+    pub const NO_SYNC: Refusal = Refusal(2);
+    pub const OTHER_LAYER: Refusal = Refusal(3);
+    pub const BIT_RATE: Refusal = Refusal(4);
+    pub const SAMPLE_RATE: Refusal = Refusal(5);
+    pub const OTHER_FORMAT: Refusal = Refusal(6);
+    pub const CUT_OFF: Refusal = Refusal(7);
+    pub const LONG_STREAM: Refusal = Refusal(8);
+    pub const LITTLE_ROOM: Refusal = Refusal(9);
+    pub const BAD_STATE: Refusal = Refusal(10);
+
+    /// Whether no later call on the same stream decodes anything.
+    pub fn ends(self) -> bool {
+        self == Refusal::END || self == Refusal::CUT_OFF
+    }
+}
+
+/// A frame that was decoded: its start in seconds, and the bits that it used.
+#[derive(Clone, Copy, Debug, PartialEq)]
+pub struct Frame {
+    pub start: f64,
+    pub bits: usize,
+}
+
+/// A decoder's state, as plain numbers. With its memory it can be kept and taken up again.
+#[derive(Clone, Copy, Debug, PartialEq)]
+pub struct Decoder {
+    /// Bit position, sample-rate code, bit-rate index, bound, pending data size, ring position.
+    pub places: [usize; 6],
+    /// Mode, frames decoded.
+    pub counts: [u32; 2],
+    /// When the next frame starts, in seconds.
+    pub time: [f64; 1],
+}
+
+fn answer<T>(number: u32, value: T) -> Result<T, Refusal> {
+    match number {
+        0 => Ok(value),
+        _ => Err(Refusal(number)),
+    }
+}
+
+impl Decoder {
+    /// Clears the memory and tries the first header. The decoder can go on whatever the answer is.
+    pub fn new(stream: &[u8], memory: &mut [f32]) -> (Decoder, Result<(), Refusal>) {
+        let mut d = Decoder {
+            places: [0; 6],
+            counts: [0; 2],
+            time: [0.0],
+        };
+        let (ring, room) = (memory.as_mut_ptr(), memory.len());
+        let (places, counts, time) = (&mut d.places, &mut d.counts, &mut d.time);
+        // Safe, here and below: each pointer and length is that of a slice or an array lent for the call.
+        let number = unsafe { boundary::tag_open(stream.as_ptr(), stream.len(), ring, room, places, counts, time) };
+        (d, answer(number, ()))
+    }
+
+    /// Whether a header is known; if none is, the next one is tried.
+    pub fn has_header(&mut self, stream: &[u8]) -> Result<(), Refusal> {
+        let (places, counts, time) = (&mut self.places, &mut self.counts, &mut self.time);
+        let number = unsafe { boundary::tag_has_header(stream.as_ptr(), stream.len(), places, counts, time) };
+        answer(number, ())
+    }
+
+    /// Samples a second; 0 without a header.
+    pub fn samplerate(&self) -> Result<u32, Refusal> {
+        let mut rate = [0];
+        let number = unsafe { boundary::tag_samplerate(&self.places, &self.counts, &self.time, &mut rate) };
+        answer(number, rate[0])
+    }
+
+    /// The next frame, to the output's first 2,304 values. A refusal leaves memory and output.
+    pub fn decode(&mut self, stream: &[u8], memory: &mut [f32], output: &mut [f32]) -> Result<Frame, Refusal> {
+        let (mut start, mut bits) = ([0.0], [0]);
+        let number = unsafe {
+            boundary::tag_decode(
+                stream.as_ptr(),
+                stream.len(),
+                memory.as_mut_ptr(),
+                memory.len(),
+                output.as_mut_ptr(),
+                output.len(),
+                &mut self.places,
+                &mut self.counts,
+                &mut self.time,
+                &mut start,
+                &mut bits,
+            )
+        };
+        let frame = Frame {
+            start: start[0],
+            bits: bits[0],
+        };
+        answer(number, frame)
+    }
+}
