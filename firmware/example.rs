@@ -24,7 +24,11 @@ fn main() -> std::io::Result<()> {
         match d.decode(&stream, &mut memory, &mut output) {
             Ok(frame) => {
                 let (number, at) = (d.counts[1] - 1, (d.places[0] - frame.bits) / 8);
-                println!("frame {number} at {at} bits {} sum {:016x}", frame.bits, checksum(&output));
+                println!(
+                    "frame {number} at {at} bits {} sum {:016x}",
+                    frame.bits,
+                    checksum(&output)
+                );
             }
             Err(refusal) => {
                 let word = if refusal.ends() { "end" } else { "refused" };
