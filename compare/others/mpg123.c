@@ -1,6 +1,11 @@
 /* libmpg123 on a whole stream lent at once: how many frames it played, -1 if it failed. Output: f32, interleaved. */
 #include <mpg123.h>
 
+/* Which of its decoders: NULL is its own choice, "generic" its plain C. */
+#ifndef DECODER
+#define DECODER NULL
+#endif
+
 long play(const unsigned char *stream, size_t length) {
     static int ready = 0;
     long frames = 0;
@@ -10,7 +15,7 @@ long play(const unsigned char *stream, size_t length) {
     if (!ready && mpg123_init() != MPG123_OK)
         return -1;
     ready = 1;
-    mpg123_handle *m = mpg123_new(NULL, NULL);
+    mpg123_handle *m = mpg123_new(DECODER, NULL);
     if (m == NULL)
         return -1;
     mpg123_param(m, MPG123_ADD_FLAGS, MPG123_FORCE_FLOAT | MPG123_QUIET, 0);

@@ -91,7 +91,7 @@ extern "C" {
 fn others(folder: &Path) -> Vec<Other> {
     const NOW: i32 = 2;
     let mut found = Vec::new();
-    for name in ["mpg123", "mad", "mp2", "mp2float"] {
+    for name in ["mpg123", "mpg123-c", "mad", "mp2", "mp2float"] {
         let path = std::ffi::CString::new(format!("{}/{name}.so", folder.display())).unwrap();
         let library = unsafe { dlopen(path.as_ptr(), NOW) };
         if library.is_null() {

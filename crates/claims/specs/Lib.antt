@@ -4,6 +4,7 @@ pub mod Accepted
 pub mod Ring
 pub mod Finite
 pub mod Tables
+pub mod Reader
 pub mod Pairs
 pub mod Attempts
 pub mod Least
