@@ -9,7 +9,7 @@ use mathlib.Core.List.{List, [], _∷_, _++_}
 use native.Mathlib.Nat.{lt-of-lt-of-le}
 use native.Mathlib.Omega.{arith}
 use borrow.Author.Tests.{ne-eqb}
-use lib.Dec.{T, eqb, ltb, leb, eqb→eq, ltb→lt, leb→le, lit≤}
+use lib.Dec.{T, eqb, ltb, leb, eqb→eq, ltb→lt, leb→le}
 use lib.IntN.{ℤ, pos}
 use lib.ListN.{length, getD, set, replicate, length-set, length-replicate, length-append}
 use lib.Pow.{pow-pos, pow-mono}
@@ -22,7 +22,7 @@ use Rattle.grammar.specs.Run.{run-bind}
 use Rattle.tables.specs.Standard.{Table, B2a, B2b, B2c, B2d, rowOf, rowsOf, stepsOf, sblimit, classes, quantisationOf, levelsOf, codeBitsOf, groupedOf}
 use Rattle.tables.specs.Source.{step4, rowOf as sourceRow, quantiserOf}
 use Rattle.tables.specs.Differences.{numberOf, listed, same-width, differs-only}
-use Rattle.tables.specs.Laws.{width≤4, quantiser<18}
+use Rattle.tables.specs.Laws.{width≤4, quantiser<18, sblimit≤30}
 use Rattle.samples.specs.Sample.{factorOf}
 use Rattle.side.specs.Bands.{bands, channelsOf, allocatedOf, three}
 use Rattle.side.specs.Side.{Side, allocationOf, allocationBandOf, allocationsOf, selectorOf, factorsOf, sideOf}
@@ -80,13 +80,6 @@ same-zero t sb (suc v) h l =
     (λ k. let g : suc v ≡ 0 = eqb→eq _ _ k in omega arith)) in
     ne-eqb q 0 (λ e. omega arith) ∙ sym (ne-eqb (suc v) 0 (λ e. omega arith))
 
-few : (t : Table) → sblimit t ≤ 30
-unfolding sblimit rowsOf
-few B2a = lit≤ tt
-few B2b = lit≤ tt
-few B2c = lit≤ tt
-few B2d = lit≤ tt
-
 -- ---- the allocations
 
 -- the source's quantiser for a field's value, at place i
@@ -114,7 +107,7 @@ module _ (t : Table) where
   allocations-related bound =
       related-bands (λ _. Allocs t) (allocationBandOf (numberOf t) bound) (allocationBand t bound) (sblimit t)
       (λ sb h xs ys p.
-      let w = few t in
+      let w = sblimit≤30 t in
       let low : sb % 32 ≡ sb = omega arith in
       let high : (sb + 32) % 32 ≡ sb = omega arith in
       related-pair (Allocs t) (Allocs t) (ltb sb bound) (allocationOf (numberOf t) sb sb) (allocationOf (numberOf t) sb (sb + 32))
@@ -140,7 +133,7 @@ module _ (t : Table) where
     unfolding selectorOf scfsi Related
     selectors-related mono =
         related-bands (λ _. _≡_) _ _ (sblimit t)
-        (λ sb h xs ys p. related-channels _≡_ mono (allocatedOf quant selectorOf) (allocatedOf a scfsi) sb (omega (arith, few t))
+        (λ sb h xs ys p. related-channels _≡_ mono (allocatedOf quant selectorOf) (allocatedOf a scfsi) sb (omega (arith, sblimit≤30 t))
         (λ at e x y q. related-allocated _≡_ quant a selectorOf scfsi at x y (same-allocated sb at h e) (λ _. q)
         (λ _. (refl, λ v _. ap (λ z. set z at v) q)))
         xs ys p)
@@ -170,7 +163,7 @@ module _ (t : Table) where
         let one : ℕ → List ℕ → Reads (List ℕ) = λ at. factorsOf (getD selector at 0) at in
         let one′ : ℕ → List ℕ → Reads (List ℕ) = λ at. scalefactors (getD c at 0) at in
         related-bands (λ _. Factors) _ _ (sblimit t)
-        (λ sb h xs ys p. related-channels Factors mono (allocatedOf quant one) (allocatedOf a one′) sb (omega (arith, few t))
+        (λ sb h xs ys p. related-channels Factors mono (allocatedOf quant one) (allocatedOf a one′) sb (omega (arith, sblimit≤30 t))
         (λ at e x y q. related-allocated Factors quant a one one′ at x y (same-allocated sb at h e) (λ _. q)
         (λ _. subst (λ z. Related Factors (one at x) (scalefactors (getD z at 0) at y)) same (factors-at (getD selector at 0) at x y q)))
         xs ys p)
@@ -258,7 +251,7 @@ module _ (t : Table) (quant a : List ℕ) (both : Allocs t quant a) (clean : Unl
       → Related (Granule (suc sb)) (sampleBandOf side part bound sb xs) (codeBand t a bound sb cs)
   unfolding sampleBandOf codeBand Granule made band
   band-related sb h xs cs g =
-      let w = few t in
+      let w = sblimit≤30 t in
       let left : List Code → List ℤ = λ ds. placed t a f bound part sb sb (getD ds sb none) (made t a f bound part ds sb) in
       let M : List ℤ → List Code → Type 0 = λ ys ds. (length ds ≡ 64) × (ys ≡ left ds) in
       related-pair M (Granule (suc sb)) (ltb sb bound) (placeOf side part sb) (placeOf side part (sb + 32)) (copied sb)

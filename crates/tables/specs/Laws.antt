@@ -36,16 +36,16 @@ pub bits≤16 : (q : ℕ) → codeBitsOf q ≤ 16
 unfolding codeBitsOf quantisationOf classes
 bits≤16 q = leb→le _ _ (entry (λ c. leb (c .bits) 16) (class 0 0 0) classes tt tt q)
 
-limit-of : (t : Table) → sblimit t ≤ 30
+pub sblimit≤30 : (t : Table) → sblimit t ≤ 30
 unfolding sblimit rowsOf
-limit-of B2a = lit≤ tt
-limit-of B2b = lit≤ tt
-limit-of B2c = lit≤ tt
-limit-of B2d = lit≤ tt
+sblimit≤30 B2a = lit≤ tt
+sblimit≤30 B2b = lit≤ tt
+sblimit≤30 B2c = lit≤ tt
+sblimit≤30 B2d = lit≤ tt
 
 pub limit≤30 : (mode bitrate samplerate : ℕ) → limitOf mode bitrate samplerate ≤ 30
 unfolding limitOf
-limit≤30 mode bitrate samplerate = limit-of (chosen (eqb mode 3) bitrate samplerate)
+limit≤30 mode bitrate samplerate = sblimit≤30 (chosen (eqb mode 3) bitrate samplerate)
 
 -- a quantiser's levels, and how large its codes are: one of three samples, and one of one
 pub record Sizes (q : ℕ) : Type 0 where
