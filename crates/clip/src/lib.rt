@@ -1,0 +1,93 @@
+// A clip frame by frame: the decoder's calls until 1 or 7, with the refusals between passed over.
+use audio::Audio;
+use listing::Line;
+ghost use mathlib.Core.Path.{_≡_};
+ghost use Prim.Native.Nat.{_≤_};
+ghost use lib.ListN.{length};
+ghost use Rattle.audio.specs.Calls.{openMemory};
+ghost use Rattle.clip.specs.Frames.{countOf, turnOf, openedOf};
+
+// A decoder and the calls that it may still make: on n bytes every call after n/2 + 1 of them gives 1 or 7.
+pub struct Playing {
+    pub state: Audio,
+    pub calls: usize,
+}
+
+// Whether a frame was found, and its samples a second.
+pub struct Reached {
+    pub frame: bool,
+    pub rate: u32,
+    pub playing: Playing,
+}
+
+pub struct Counted {
+    pub frames: usize,
+    pub rate: u32,
+}
+
+// From the stream's start.
+pub fn start(stream: &[u8], memory: &mut [f32]) -> Playing
+    ensures { λ r. ⌜ r ≡ openedOf (now (stream .entry)) (now (memory .entry)) ⌝ }
+    ensures { λ _. ⌜ now (memory .exit) ≡ openMemory (now (stream .entry)) (now (memory .entry)) ⌝ }
+{
+    let opened = Audio::new(stream, memory);
+    let state = opened.state;
+    let calls = stream.len() / 2 + 2;
+    Playing { state, calls }
+}
+
+// The next frame: its samples are in the output.
+pub fn next(playing: Playing, stream: &[u8], memory: &mut [f32], output: &mut [f32]) -> Reached
+    ensures { λ r. ⌜ r ≡ turnOf (playing .calls) (now (stream .entry)) (now (memory .entry)) (now (output .entry)) (playing .state) .reached ⌝ }
+    ensures { λ _. ⌜ now (memory .exit) ≡ turnOf (playing .calls) (now (stream .entry)) (now (memory .entry)) (now (output .entry)) (playing .state) .memory ⌝ }
+    ensures { λ _. ⌜ now (output .exit) ≡ turnOf (playing .calls) (now (stream .entry)) (now (memory .entry)) (now (output .entry)) (playing .state) .output ⌝ }
+{
+    let mut state = playing.state;
+    let mut calls = playing.calls;
+    while 0 < calls {
+        calls -= 1;
+        let listed = listing::next_line(state, stream, memory, output);
+        state = listed.state;
+        let line = listed.line;
+        match line {
+            Line::Frame { rate, .. } => {
+                return Reached {
+                    frame: true,
+                    rate,
+                    playing: Playing { state, calls },
+                };
+            }
+            Line::Refused { .. } => {}
+            Line::End { .. } => {
+                return Reached {
+                    frame: false,
+                    rate: 0,
+                    playing: Playing { state, calls },
+                };
+            }
+        }
+    }
+    Reached {
+        frame: false,
+        rate: 0,
+        playing: Playing { state, calls: 0 },
+    }
+}
+
+// How many frames a clip has, and its rate.
+pub fn count(stream: &[u8]) -> Counted
+    ensures { λ r. ⌜ r ≡ countOf (now (stream .entry)) ⌝ }
+{
+    let mut memory = [0.0f32; 2048];
+    let mut output = [0.0f32; 2304];
+    let opened = start(stream, &mut memory);
+    let mut at = next(opened, stream, &mut memory, &mut output);
+    let rate = if at.frame { at.rate } else { 44100 };
+    let mut frames = 0;
+    while at.frame {
+        frames += 1;
+        let playing = at.playing;
+        at = next(playing, stream, &mut memory, &mut output);
+    }
+    Counted { frames, rate }
+}
