@@ -1,0 +1,41 @@
+-- The first 44 bytes of a RIFF WAVE file of 16-bit stereo. From Microsoft and IBM's "Multimedia Programming Interface and Data Specifications 1.0":
+-- a RIFF chunk of form WAVE that holds a format chunk and a data chunk. E1: "Lengths in the header are exact."
+-- Assumes nothing.
+use Prim.Native.Nat.{ℕ, _+_, _*_, _/_, _%_, _^_, _<_}
+use mathlib.Core.Path.{_≡_, refl}
+use mathlib.Core.List.{List, [], _∷_, _++_}
+use native.Mathlib.Omega.{arith}
+use lib.ListN.{length, getD}
+
+-- a number in two and in four bytes, low byte first
+abbrev pub le16 : ℕ → List ℕ
+le16 n = n % 256 ∷ n / 256 % 256 ∷ []
+
+abbrev pub le32 : ℕ → List ℕ
+le32 n = n % 256 ∷ n / 256 % 256 ∷ n / 65536 % 256 ∷ n / 16777216 % 256 ∷ []
+
+-- the letters R I F F, W A V E, f m t and a space, d a t a
+abbrev pub riffName : List ℕ
+riffName = 82 ∷ 73 ∷ 70 ∷ 70 ∷ []
+
+abbrev pub waveName : List ℕ
+waveName = 87 ∷ 65 ∷ 86 ∷ 69 ∷ []
+
+abbrev pub formatName : List ℕ
+formatName = 102 ∷ 109 ∷ 116 ∷ 32 ∷ []
+
+abbrev pub dataName : List ℕ
+dataName = 100 ∷ 97 ∷ 116 ∷ 97 ∷ []
+
+-- a frame has 2,304 samples of two bytes
+abbrev pub dataBytes : ℕ → ℕ
+dataBytes frames = 4608 * frames
+
+-- what follows the format chunk's name: its length, PCM, two channels, the rate, bytes a second, bytes for one sample of both channels, bits a sample
+abbrev pub formatOf : ℕ → List ℕ
+formatOf rate = le32 16 ++ le16 1 ++ le16 2 ++ le32 rate ++ le32 (4 * rate) ++ le16 4 ++ le16 16
+
+-- the RIFF chunk's length counts what comes after it: 36 bytes of this header, and the data
+unfoldable pub headerOf : ℕ → ℕ → List ℕ
+headerOf frames rate =
+    riffName ++ le32 (36 + dataBytes frames) ++ waveName ++ formatName ++ formatOf rate ++ dataName ++ le32 (dataBytes frames)
