@@ -44,11 +44,11 @@ between field k digits e l s =
     let sum : field + suc k ≡ 135 = omega arith in
     let whole : 2 ^ field * 2 ^ suc k ≡ 2 ^ 135 = sym (pow-add 2 field (suc k)) ∙ ap (λ x. 2 ^ x) sum in
     let cut : (digits + h) / 2 ^ suc k ≡ halfUp (digits * 2 ^ field) (2 ^ 135) =
-        ap (λ x. (digits + h) / x) twice
-        ∙ sym (mul-div-mul-left (digits + h) (2 * h) (lit< tt))
-        ∙ ap (λ x. x / (2 * (2 * h))) (mul-add 2 digits h)
-        ∙ half-same digits (2 * h) (digits * 2 ^ field) (2 ^ 135) (omega (arith, pow-pos k)) (pow-pos 135)
-        (ap (λ x. digits * x) (sym whole) ∙ sym (mul-assoc digits (2 ^ field) (2 ^ suc k)) ∙ ap (λ x. digits * 2 ^ field * x) twice) in
+    ap (λ x. (digits + h) / x) twice
+    ∙ sym (mul-div-mul-left (digits + h) (2 * h) (lit< tt))
+    ∙ ap (λ x. x / (2 * (2 * h))) (mul-add 2 digits h)
+    ∙ half-same digits (2 * h) (digits * 2 ^ field) (2 ^ 135) (omega (arith, pow-pos k)) (pow-pos 135)
+    (ap (λ x. digits * x) (sym whole) ∙ sym (mul-assoc digits (2 ^ field) (2 ^ suc k)) ∙ ap (λ x. digits * 2 ^ field * x) twice) in
     let few : (digits + h) / 2 ^ suc k < 32769 =
-        div-lt-iff-lt-mul (pow-pos (suc k)) .1 (rw twice (omega (arith, pow-mono {i = 8} {j = k} l))) in
+    div-lt-iff-lt-mul (pow-pos (suc k)) .1 (rw twice (omega (arith, pow-mono {i = 8} {j = k} l))) in
     sym (min-eq-left (omega arith)) ∙ ap (λ x. min x 32768) cut

@@ -5,7 +5,7 @@ use Prim.Native.Nat.{ℕ, _+_, _*_, _/_, _%_, _^_, _<_}
 use mathlib.Core.Path.{_≡_, refl}
 use mathlib.Core.List.{List, [], _∷_, _++_}
 use native.Mathlib.Omega.{arith}
-use lib.ListN.{length, getD}
+use lib.ListN.{length, set}
 
 -- a number in two and in four bytes, low byte first
 abbrev pub le16 : ℕ → List ℕ
@@ -39,3 +39,23 @@ formatOf rate = le32 16 ++ le16 1 ++ le16 2 ++ le32 rate ++ le32 (4 * rate) ++ l
 unfoldable pub headerOf : ℕ → ℕ → List ℕ
 headerOf frames rate =
     riffName ++ le32 (36 + dataBytes frames) ++ waveName ++ formatName ++ formatOf rate ++ dataName ++ le32 (dataBytes frames)
+
+-- bytes with those of a number stored from a place on
+abbrev pub putAt : List ℕ → ℕ → ℕ → List ℕ
+putAt bytes at n =
+    set (set (set (set bytes at (n % 256)) (at + 1) (n / 256 % 256)) (at + 2) (n / 65536 % 256)) (at + 3) (n / 16777216 % 256)
+
+pub length-header : (frames rate : ℕ) → length (headerOf frames rate) ≡ 44
+unfolding headerOf
+length-header frames rate = refl
+
+-- the number that bytes stand for, low byte first
+abbrev pub valueOf : List ℕ → ℕ
+valueOf [] = 0
+valueOf (b ∷ bs) = b + 256 * valueOf bs
+
+pub le16-back : (n : ℕ) → n < 2 ^ 16 → valueOf (le16 n) ≡ n
+le16-back n h = omega arith
+
+pub le32-back : (n : ℕ) → n < 2 ^ 32 → valueOf (le32 n) ≡ n
+le32-back n h = omega arith

@@ -1,9 +1,57 @@
 // The bytes of a RIFF WAVE file: a header of 44 bytes, then 16-bit stereo.
 ghost use mathlib.Core.Path.{_≡_};
-ghost use Prim.Native.Nat.{_*_, _%_, _^_, _<_, _≤_, min};
+ghost use Prim.Native.Nat.{_*_, _^_, _<_, _≤_, min};
 ghost use lib.ListN.{length};
 ghost use Rattle.riff.specs.Level.{halfUp, levelOf, bits16, pcmOf};
-ghost use Rattle.riff.specs.Header.{headerOf};
+ghost use Rattle.riff.specs.Header.{putAt, headerOf};
+
+// The header, with zeros for the file's length less 8, the samples and the bytes of a second, and the length of the data.
+const BLANK: [u8; 44] = [
+    b'R',
+    b'I',
+    b'F',
+    b'F',
+    0,
+    0,
+    0,
+    0,
+    b'W',
+    b'A',
+    b'V',
+    b'E',
+    b'f',
+    b'm',
+    b't',
+    b' ',
+    16,
+    0,
+    0,
+    0,
+    1,
+    0,
+    2,
+    0,
+    0,
+    0,
+    0,
+    0,
+    0,
+    0,
+    0,
+    0,
+    4,
+    0,
+    16,
+    0,
+    b'd',
+    b'a',
+    b't',
+    b'a',
+    0,
+    0,
+    0,
+    0,
+];
 
 // How many steps of 1/32768 a float is away from zero: of its exponent's field and its digits with the leading one.
 // In steps it is digits / 2^(135 - field): a half is added, then the fraction is cut. From field 127 on it is 1.0 or more.
@@ -38,12 +86,6 @@ pub fn word(x: f32) -> u32
     (65536 - away) % 65536
 }
 
-fn low_byte(n: u32) -> u8
-    ensures { λ r. ⌜ r ≡ n % 256 ⌝ }
-{
-    (n % 256) as u8
-}
-
 // The samples, two bytes each.
 pub fn write_samples(values: &[f32], bytes: &mut [u8])
     requires { ⌜ length (now bytes) ≡ 2 * length (now values) ⌝ }
@@ -52,10 +94,21 @@ pub fn write_samples(values: &[f32], bytes: &mut [u8])
     let mut i = 0;
     while i < values.len() {
         let bits = word(values[i]);
-        bytes[2 * i] = low_byte(bits);
-        bytes[2 * i + 1] = low_byte(bits / 256);
+        bytes[2 * i] = (bits % 256) as u8;
+        bytes[2 * i + 1] = (bits / 256) as u8;
         i += 1;
     }
+}
+
+// n in four bytes from `at` on, low byte first.
+fn put(bytes: &mut [u8; 44], at: usize, n: u32)
+    requires { ⌜ at ≤ 40 ⌝ }
+    ensures { λ _. ⌜ now (bytes .exit) ≡ putAt (now (bytes .entry)) at n ⌝ }
+{
+    bytes[at] = (n % 256) as u8;
+    bytes[at + 1] = (n / 256 % 256) as u8;
+    bytes[at + 2] = (n / 65536 % 256) as u8;
+    bytes[at + 3] = (n / 16777216 % 256) as u8;
 }
 
 // The header of a file with that many frames, at that many samples a second.
@@ -65,52 +118,10 @@ pub fn header(frames: u32, rate: u32) -> [u8; 44]
     ensures { λ r. ⌜ 44 ≡ length r ⌝ }
 {
     let data = 4608 * frames;
-    let after = 36 + data;
-    let second = 4 * rate;
-    [
-        b'R',
-        b'I',
-        b'F',
-        b'F',
-        low_byte(after),
-        low_byte(after / 256),
-        low_byte(after / 65536),
-        low_byte(after / 16777216),
-        b'W',
-        b'A',
-        b'V',
-        b'E',
-        b'f',
-        b'm',
-        b't',
-        b' ',
-        16,
-        0,
-        0,
-        0,
-        1,
-        0,
-        2,
-        0,
-        low_byte(rate),
-        low_byte(rate / 256),
-        low_byte(rate / 65536),
-        low_byte(rate / 16777216),
-        low_byte(second),
-        low_byte(second / 256),
-        low_byte(second / 65536),
-        low_byte(second / 16777216),
-        4,
-        0,
-        16,
-        0,
-        b'd',
-        b'a',
-        b't',
-        b'a',
-        low_byte(data),
-        low_byte(data / 256),
-        low_byte(data / 65536),
-        low_byte(data / 16777216),
-    ]
+    let mut bytes = BLANK;
+    put(&mut bytes, 4, 36 + data);
+    put(&mut bytes, 24, rate);
+    put(&mut bytes, 28, 4 * rate);
+    put(&mut bytes, 40, data);
+    bytes
 }

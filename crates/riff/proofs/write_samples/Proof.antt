@@ -2,7 +2,6 @@ use Rattle.riff.proofs.write_samples.Statement.{statement}
 use Rattle.riff.proofs.write_samples.Tie as tie
 use Rattle.riff.proofs.write_samples.Reads as reads
 use Rattle.riff.proofs.write_samples.Lts as lts
-use Rattle.riff.proofs.low_byte.Reads as low-byte-reads
 use Rattle.riff.proofs.word.Reads as word-reads
 
 abbrev Inv-loop : tie.InvT-loop
@@ -23,8 +22,8 @@ shared-slice-read-word c = ?
 word-requires : tie.Need-word-requires Inv-loop μ-loop
 word-requires c κs = ?
 
-low-byte-requires : tie.Need-low-byte-requires Inv-loop μ-loop
-low-byte-requires c κs = ?
+cast-bytes : tie.Need-cast-bytes Inv-loop μ-loop
+cast-bytes c = ?
 
 mul-bytes : tie.Need-mul-bytes Inv-loop μ-loop
 mul-bytes c = ?
@@ -32,8 +31,8 @@ mul-bytes c = ?
 slice-write-bytes : tie.Need-slice-write-bytes Inv-loop μ-loop
 slice-write-bytes c = ?
 
-low-byte-requires-2 : tie.Need-low-byte-requires-2 Inv-loop μ-loop
-low-byte-requires-2 c κs = ?
+cast-bytes-2 : tie.Need-cast-bytes-2 Inv-loop μ-loop
+cast-bytes-2 c = ?
 
 mul-bytes-2 : tie.Need-mul-bytes-2 Inv-loop μ-loop
 mul-bytes-2 c = ?
@@ -69,10 +68,10 @@ write-samples-spec =
     mul-word
     shared-slice-read-word
     word-requires
-    low-byte-requires
+    cast-bytes
     mul-bytes
     slice-write-bytes
-    low-byte-requires-2
+    cast-bytes-2
     mul-bytes-2
     add-bytes
     slice-write-bytes-2
