@@ -1,11 +1,12 @@
 -- The first 44 bytes of a RIFF WAVE file of 16-bit stereo. From Microsoft and IBM's "Multimedia Programming Interface and Data Specifications 1.0":
 -- a RIFF chunk of form WAVE that holds a format chunk and a data chunk. E1: "Lengths in the header are exact."
 -- Assumes nothing.
-use Prim.Native.Nat.{ℕ, _+_, _*_, _/_, _%_, _^_, _<_}
+use Prim.Native.Nat.{ℕ, _+_, _-_, _*_, _/_, _%_, _^_, _≤_, _<_}
 use mathlib.Core.Path.{_≡_, refl}
 use mathlib.Core.List.{List, [], _∷_, _++_}
+use native.Mathlib.Nat.{div-div-eq-div-mul}
 use native.Mathlib.Omega.{arith}
-use lib.ListN.{length, set}
+use lib.ListN.{length, take, drop, set}
 
 -- a number in two and in four bytes, low byte first
 abbrev pub le16 : ℕ → List ℕ
@@ -54,8 +55,21 @@ abbrev pub valueOf : List ℕ → ℕ
 valueOf [] = 0
 valueOf (b ∷ bs) = b + 256 * valueOf bs
 
+-- the byte of weight d, with what stands above it
+part : (n d : ℕ) → n / d % 256 + 256 * (n / (d * 256)) ≡ n / d
+part n d = rw (← div-div-eq-div-mul n d 256) (omega arith)
+
 pub le16-back : (n : ℕ) → n < 2 ^ 16 → valueOf (le16 n) ≡ n
 le16-back n h = omega arith
 
 pub le32-back : (n : ℕ) → n < 2 ^ 32 → valueOf (le32 n) ≡ n
-le32-back n h = omega arith
+le32-back n h =
+    let top : n / 16777216 % 256 ≡ n / 16777216 = omega arith in
+    rw (top, part n 65536, part n 256) (omega arith)
+
+-- E1: "Lengths in the header are exact": of the bytes after the first eight, and of the samples
+pub lengths-exact : (frames rate : ℕ) → frames ≤ 900000
+    → (valueOf (take 4 (drop 4 (headerOf frames rate))) ≡ length (headerOf frames rate) - 8 + dataBytes frames)
+    × (valueOf (take 4 (drop 40 (headerOf frames rate))) ≡ dataBytes frames)
+unfolding headerOf
+lengths-exact frames rate h = (le32-back (36 + dataBytes frames) (omega arith), le32-back (dataBytes frames) (omega arith))
