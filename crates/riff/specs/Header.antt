@@ -64,7 +64,7 @@ le16-back n h = omega arith
 
 pub le32-back : (n : ℕ) → n < 2 ^ 32 → valueOf (le32 n) ≡ n
 le32-back n h =
-    let top : n / 16777216 % 256 ≡ n / 16777216 = omega arith in
+    let top : n / 16777216 % 256 + 0 ≡ n / 16777216 = omega arith in
     rw (top, part n 65536, part n 256) (omega arith)
 
 -- E1: "Lengths in the header are exact": of the bytes after the first eight, and of the samples
