@@ -50,7 +50,7 @@ abbrev pub rateIn : List Heard → ℕ
 rateIn [] = 44100
 rateIn (x ∷ more) = x .rate
 
-unfoldable pub countOf : List ℕ → Counted
+abbrev pub countOf : List ℕ → Counted
 countOf s = record { frames = length (clipOf s); rate = rateIn (clipOf s) }
 
 -- ---- one frame after the other

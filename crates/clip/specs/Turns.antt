@@ -1,12 +1,14 @@
 -- A clip turn by turn: the frame that a turn finds, and then what is heard from where it ended. So a count of turns is a count of frames.
 -- Assumes nothing.
 use Prim.Native.Nat.{ℕ, zero, suc, _+_, _/_, _≤_, _<_}
-use mathlib.Core.Path.{_≡_, refl, ap, _∙_}
+use mathlib.Core.Path.{_≡_, refl, ap, sym, _∙_}
 use mathlib.Core.Bool.{true, false, cond}
 use mathlib.Core.List.{List, [], _∷_}
 use native.Mathlib.Omega.{arith}
 use lib.Ieee.{Float}
 use lib.ListN.{length, drop, getD}
+use lib.Seq.{drop-cons}
+use Rattle.ground.specs.Tests.{by-test}
 use Rattle.audio.specs.Calls.{openMemory, decodeMemory, decodeOutput}
 use Rattle.audio.specs.declared.Audio.{Audio}
 use Rattle.listing.specs.Lines.{nextOf}
@@ -86,3 +88,18 @@ none-found s t e = rw e
 
 pub one-fewer : (s : List ℕ) (t u : Turn) → t .reached .frame ≡ true → behind s t ≡ heardBy s u → length (heardBy s t) ≡ suc (length (heardBy s u))
 one-fewer s t u e f = ap length (one-found s t e) ∙ ap (λ xs. suc (length xs)) f
+
+-- a turn at frame i of a clip finds it
+pub found-at : (s : List ℕ) (xs : List Heard) (i : ℕ) (d : Heard) (t : Turn) → i < length xs → drop i xs ≡ heardBy s t
+    → (getD xs i d ≡ foundIn t) × (drop (suc i) xs ≡ behind s t)
+unfolding heardBy
+found-at s xs i d t l e =
+    by-test P (t .reached .frame) _ _ (λ _ h. (ap (λ ys. getD ys 0 d) h, ap (drop 1) h)) (λ _ h. absurd (let z : _≡_ {A = ℕ} 1 0 = ap size h in omega arith))
+    (sym (drop-cons xs i d l) ∙ e)
+  where
+    P : List Heard → Type 0
+    P ys = getD xs i d ∷ drop (suc i) xs ≡ ys → (getD xs i d ≡ foundIn t) × (drop (suc i) xs ≡ behind s t)
+
+    size : List Heard → ℕ
+    size [] = 0
+    size (y ∷ ys) = 1

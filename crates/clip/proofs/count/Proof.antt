@@ -7,7 +7,7 @@ use mathlib.Core.Logic.{⊎-elim}
 use native.Mathlib.Omega.{arith}
 use lib.ListN.{length}
 use borrow.Author.Needs.{needs}
-use Rattle.clip.specs.Frames.{Heard, clipOf, rateIn, countOf}
+use Rattle.clip.specs.Frames.{Heard, clipOf, rateIn}
 use Rattle.clip.specs.declared.Reached.{Reached}
 use Rattle.clip.specs.Turns.{heardBy, heard-next, few-in-clip, begins, found-rate, no-rate, none-found, one-fewer}
 use Rattle.clip.proofs.count.Statement.{statement}
@@ -77,7 +77,6 @@ loop-again : tie.Need-loop-again Inv-loop μ-loop
 loop-again c = (search needs, search needs, search needs, omega (arith, one-less c, c .before .before .before .before .before .before .before .loop .inv .3))
 
 returns : tie.Need-returns Inv-loop μ-loop
-unfolding countOf
 returns c =
     let l = c .before .loop in
     let none = none-found (c .before .before .before .before .before .before .before .before .before .before .before .before .args .stream .now) (record { reached = l .at; memory = l .memory; output = l .output }) (c .loop-test .left) in

@@ -1,0 +1,106 @@
+use Prim.Native.Nat.{suc, _+_, _-_, _<_}
+use native.Mathlib.Numerals.{add-one}
+use mathlib.Core.Path.{_≡_, _∙_}
+use native.Mathlib.Omega.{arith}
+use lib.Ieee.{ofBits}
+use lib.ListN.{length, drop, getD}
+use borrow.Author.Needs.{needs}
+use Rattle.clip.specs.Frames.{Turn, clipOf, framesOf}
+use Rattle.clip.specs.Turns.{foundIn, behind, heard-next, begins, found-at}
+use Rattle.wav.specs.File.{frame-part}
+use Rattle.wav.proofs.put_frames.Statement.{statement}
+use Rattle.wav.proofs.put_frames.Tie as tie
+
+abbrev Inv-loop : tie.InvT-loop
+Inv-loop stream frames memory₀ output₀ bytes₀ playing₀ i₀ memory output bytes playing i =
+    (length memory ≡ 2048) × (length output ≡ 2304) × (length bytes ≡ 4608)
+    × (drop i (clipOf stream) ≡ framesOf (playing .calls) stream memory output (playing .state))
+
+abbrev μ-loop : tie.MeasureT-loop
+μ-loop stream frames memory₀ output₀ bytes₀ playing₀ i₀ memory output bytes playing i = frames - i
+
+-- the turn at frame i finds it: what it leaves is that frame, and what is heard behind it
+found : (c : tie.After-next Inv-loop μ-loop) → let l = c .before .before .before .before .loop in let n = c .next in let clip = clipOf (c .before .before .before .before .before .before .before .before .before .args .stream .now) in
+    let t : Turn = record { reached = n .result; memory = n .last .1 .1 .0; output = n .last .1 .1 .1 .0 } in
+    (l .i < length clip) × (getD clip (l .i) (foundIn t) ≡ foundIn t) × (drop (suc (l .i)) clip ≡ behind (c .before .before .before .before .before .before .before .before .before .args .stream .now) t)
+found c =
+    let l = c .before .before .before .before .loop in
+    let e = c .next .ensures in
+    let inside : l .i < length (clipOf (c .before .before .before .before .before .before .before .before .before .args .stream .now)) = omega arith in
+    let h = found-at _ _ _ _ _ inside (l .inv .3 ∙ heard-next _ _ _ _ _ _ _ _ (e .0) (e .1 .0) (e .1 .1)) in
+    (inside, h .0, h .1)
+
+slice-aggregate-start : tie.Need-slice-aggregate-start Inv-loop μ-loop
+slice-aggregate-start c = search needs
+
+start-requires : tie.Need-start-requires Inv-loop μ-loop
+start-requires c κs = search needs
+
+loop-holds : tie.Need-loop-holds Inv-loop μ-loop
+unfolding ofBits
+loop-holds c = let e = c .before .start .ensures in (search needs, search needs, search needs, begins _ _ _ (e .0) (e .1))
+
+slice-aggregate-next : tie.Need-slice-aggregate-next Inv-loop μ-loop
+slice-aggregate-next c = search needs
+
+slice-aggregate-next-2 : tie.Need-slice-aggregate-next-2 Inv-loop μ-loop
+slice-aggregate-next-2 c = search needs
+
+next-requires : tie.Need-next-requires Inv-loop μ-loop
+next-requires c κs = search needs
+
+slice-aggregate-write-samples : tie.Need-slice-aggregate-write-samples Inv-loop μ-loop
+slice-aggregate-write-samples c = search needs
+
+slice-aggregate-write-samples-2 : tie.Need-slice-aggregate-write-samples-2 Inv-loop μ-loop
+slice-aggregate-write-samples-2 c = search needs
+
+write-samples-requires : tie.Need-write-samples-requires Inv-loop μ-loop
+write-samples-requires c κs = search needs
+
+add-i : tie.Need-add-i Inv-loop μ-loop
+add-i c = search needs
+
+slice-aggregate-put : tie.Need-slice-aggregate-put Inv-loop μ-loop
+slice-aggregate-put c = search needs
+
+put-requires : tie.Need-put-requires Inv-loop μ-loop
+put-requires c κs =
+    let h = found (c .before .before .before .before .before .before .before) in
+    let p = frame-part _ _ _ (h .0) (h .1) in
+    (p .0, c .before .before .write-samples .ensures ∙ p .1)
+
+loop-less : tie.Need-loop-less Inv-loop μ-loop
+loop-less c = search needs
+
+loop-again : tie.Need-loop-again Inv-loop μ-loop
+loop-again c = (search needs, search needs, search needs, rw (add-one (c .before .before .before .before .before .before .before .before .before .before .before .before .before .before .loop .i)) (found (c .before .before .before .before .before .before .before .before .before .before) .2))
+
+returns : tie.Need-returns Inv-loop μ-loop
+returns c = search needs
+
+returns-2 : tie.Need-returns-2 Inv-loop μ-loop
+returns-2 c = search needs
+
+pub put-frames-spec : {M : Type 1} → statement M
+put-frames-spec =
+    tie.close
+    (tie.spec
+    Inv-loop
+    μ-loop
+    slice-aggregate-start
+    start-requires
+    loop-holds
+    slice-aggregate-next
+    slice-aggregate-next-2
+    next-requires
+    slice-aggregate-write-samples
+    slice-aggregate-write-samples-2
+    write-samples-requires
+    add-i
+    slice-aggregate-put
+    put-requires
+    loop-less
+    loop-again
+    returns
+    returns-2)

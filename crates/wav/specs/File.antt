@@ -1,0 +1,44 @@
+-- The WAVE file of a clip. From 02, E1: "a RIFF WAVE file: the 44-byte header, 16-bit stereo, then every decoded frame."
+-- Assumes nothing.
+use Prim.Native.Nat.{ℕ, zero, suc, _+_, _<_}
+use mathlib.Core.Path.{_≡_, refl, ap, sym, _∙_}
+use native.Mathlib.Omega.{arith}
+use native.Mathlib.Numerals.{add-one}
+use mathlib.Core.List.{List, [], _∷_, _++_}
+use lib.ListN.{length, getD}
+use Rattle.clip.specs.Frames.{Heard, clipOf, rateIn}
+use Rattle.riff.specs.Header.{headerOf}
+use Rattle.riff.specs.Level.{pcmOf}
+
+-- a part for each frame, in order
+unfoldable pub framesIn : List Heard → List (List ℕ)
+framesIn [] = []
+framesIn (x ∷ more) = pcmOf (x .samples) ∷ framesIn more
+
+unfoldable pub partsOf : List ℕ → List (List ℕ)
+partsOf s = headerOf (length (clipOf s)) (rateIn (clipOf s)) ∷ framesIn (clipOf s)
+
+-- one after the other
+unfoldable pub joined : List (List ℕ) → List ℕ
+joined [] = []
+joined (part ∷ more) = part ++ joined more
+
+unfoldable pub fileOf : List ℕ → List ℕ
+fileOf s = joined (partsOf s)
+
+-- what the program must show of each part that it writes: the first is the header, and the others are the frames
+pub header-part : (s : List ℕ) → (0 < length (partsOf s)) × (headerOf (length (clipOf s)) (rateIn (clipOf s)) ≡ getD (partsOf s) 0 [])
+unfolding partsOf
+header-part s = (omega arith, refl)
+
+frame-in : (xs : List Heard) (i : ℕ) (d : Heard) → i < length xs → (i < length (framesIn xs)) × (pcmOf (getD xs i d .samples) ≡ getD (framesIn xs) i [])
+unfolding framesIn
+frame-in (x ∷ xs) zero d l = (omega arith, refl)
+frame-in (x ∷ xs) (suc i) d l = let h = frame-in xs i d (omega arith) in (omega arith, h .1)
+
+pub frame-part : (s : List ℕ) (i : ℕ) (x : Heard) → i < length (clipOf s) → getD (clipOf s) i x ≡ x
+    → (i + 1 < length (partsOf s)) × (pcmOf (x .samples) ≡ getD (partsOf s) (i + 1) [])
+unfolding partsOf
+frame-part s i x l e =
+    let h = frame-in (clipOf s) i x l in
+    (omega (arith, h .0), rw (add-one i) (ap (λ y. pcmOf (y .samples)) (sym e) ∙ h .1))
