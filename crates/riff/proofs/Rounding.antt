@@ -37,18 +37,15 @@ pub one-or-more : (field digits : ℕ) → 127 ≤ field → 2 ^ 23 ≤ digits �
 one-or-more field digits l s = most (digits * 2 ^ field) (2 ^ 135) (pow-pos 135) (mul-le-mul s (pow-mono l))
 
 -- a half added, then cut: k is 134 - field
-pub between : (field k digits : ℕ) → field + k ≡ 134 → 8 ≤ k → digits < 2 ^ 24 → (digits + 2 ^ k) / 2 ^ suc k ≡ stepsAt field digits
+pub between : (field k digits : ℕ) → field + k ≡ 134 → 8 ≤ k → digits < 2 ^ 24 → (digits + 2 ^ k) / (2 * 2 ^ k) ≡ stepsAt field digits
 between field k digits e l s =
     let h = 2 ^ k in
-    let twice : 2 ^ suc k ≡ 2 * h = pow-succ' 2 k in
+    let H : 0 < 2 * h = omega (arith, pow-pos k) in
     let sum : field + suc k ≡ 135 = omega arith in
-    let whole : 2 ^ field * 2 ^ suc k ≡ 2 ^ 135 = sym (pow-add 2 field (suc k)) ∙ ap (λ x. 2 ^ x) sum in
-    let cut : (digits + h) / 2 ^ suc k ≡ halfUp (digits * 2 ^ field) (2 ^ 135) =
-    ap (λ x. (digits + h) / x) twice
-    ∙ sym (mul-div-mul-left (digits + h) (2 * h) (lit< tt))
+    let whole : 2 ^ field * (2 * h) ≡ 2 ^ 135 = ap (λ x. 2 ^ field * x) (sym (pow-succ' 2 k)) ∙ sym (pow-add 2 field (suc k)) ∙ ap (λ x. 2 ^ x) sum in
+    let cut : (digits + h) / (2 * h) ≡ halfUp (digits * 2 ^ field) (2 ^ 135) =
+    sym (mul-div-mul-left (digits + h) (2 * h) (lit< tt))
     ∙ ap (λ x. x / (2 * (2 * h))) (mul-add 2 digits h)
-    ∙ half-same digits (2 * h) (digits * 2 ^ field) (2 ^ 135) (omega (arith, pow-pos k)) (pow-pos 135)
-    (ap (λ x. digits * x) (sym whole) ∙ sym (mul-assoc digits (2 ^ field) (2 ^ suc k)) ∙ ap (λ x. digits * 2 ^ field * x) twice) in
-    let few : (digits + h) / 2 ^ suc k < 32769 =
-    div-lt-iff-lt-mul (pow-pos (suc k)) .1 (rw twice (omega (arith, pow-mono {i = 8} {j = k} l))) in
+    ∙ half-same digits (2 * h) (digits * 2 ^ field) (2 ^ 135) H (pow-pos 135) (ap (λ x. digits * x) (sym whole) ∙ sym (mul-assoc digits (2 ^ field) (2 * h))) in
+    let few : (digits + h) / (2 * h) < 32769 = div-lt-iff-lt-mul H .1 (omega (arith, pow-mono {i = 8} {j = k} l)) in
     sym (min-eq-left (omega arith)) ∙ ap (λ x. min x 32768) cut
