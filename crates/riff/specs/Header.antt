@@ -6,7 +6,10 @@ use mathlib.Core.Path.{_≡_, refl}
 use mathlib.Core.List.{List, [], _∷_, _++_}
 use native.Mathlib.Nat.{div-div-eq-div-mul}
 use native.Mathlib.Omega.{arith}
+use lib.Dec.{T}
 use lib.ListN.{length, take, drop, set}
+use Rattle.ground.specs.Entries.{each}
+use Rattle.riff.specs.Level.{isByte, byte}
 
 -- a number in two and in four bytes, low byte first
 abbrev pub le16 : ℕ → List ℕ
@@ -59,9 +62,6 @@ valueOf (b ∷ bs) = b + 256 * valueOf bs
 part : (n d : ℕ) → n / d % 256 + 256 * (n / (d * 256)) ≡ n / d
 part n d = rw (← div-div-eq-div-mul n d 256) (omega arith)
 
-pub le16-back : (n : ℕ) → n < 2 ^ 16 → valueOf (le16 n) ≡ n
-le16-back n h = omega arith
-
 pub le32-back : (n : ℕ) → n < 2 ^ 32 → valueOf (le32 n) ≡ n
 le32-back n h =
     let top : n / 16777216 % 256 + 0 ≡ n / 16777216 = omega arith in
@@ -73,3 +73,7 @@ pub lengths-exact : (frames rate : ℕ) → frames ≤ 900000
     × (valueOf (take 4 (drop 40 (headerOf frames rate))) ≡ dataBytes frames)
 unfolding headerOf
 lengths-exact frames rate h = (le32-back (36 + dataBytes frames) (omega arith), le32-back (dataBytes frames) (omega arith))
+
+pub header-bytes : (frames rate : ℕ) → T (each isByte (headerOf frames rate))
+unfolding headerOf
+header-bytes frames rate = simp byte tt
