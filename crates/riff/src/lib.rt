@@ -27,7 +27,8 @@ fn exponent(bits: u32) -> u32
 fn significand(bits: u32) -> u32
     ensures { λ r. ⌜ r ≡ 8388608 + bits % 8388608 ⌝ }
 {
-    8388608 + bits % 8388608
+    let below = bits % 8388608;
+    8388608 + below
 }
 
 // digits / (2 * half), to the nearest whole number: a half is added, then the fraction is cut.
@@ -35,7 +36,8 @@ fn nearest(digits: u32, half: u32) -> u32
     requires { ⌜ (digits < 16777216) × (0 < half) × (half ≤ 8388608) ⌝ }
     ensures { λ r. ⌜ r ≡ (digits + half) / (2 * half) ⌝ }
 {
-    (digits + half) / (2 * half)
+    let raised = digits + half;
+    raised / (2 * half)
 }
 
 // How many steps of 1/32768 a float is away from zero. In steps it is digits / 2^(135 - field): below field 111 less than

@@ -31,7 +31,8 @@ returns-2 : tie.Need-returns-2
 returns-2 c =
     let b = c .before .before .before in
     let field = b .args .field in
-    c .nearest .ensures ∙ rw (half field (c .before .before .if1 .left)) (between field (134 - field) (b .args .digits) (omega arith) (omega arith) (b .pre .2))
+    c .nearest .ensures
+    ∙ rw (half field (c .before .before .if1 .left)) (between field (134 - field) (b .args .digits) (omega arith) (omega arith) (b .pre .2))
 
 returns-3 : tie.Need-returns-3
 returns-3 c =

@@ -1,6 +1,6 @@
 -- `riff::word` meets its contract, by the pattern's fields. Assumes nothing.
 use mathlib.Core.Path.{_≡_, sym, ap, _∙_}
-use Prim.Native.Nat.{_≤_, min}
+use Prim.Native.Nat.{min}
 use native.Mathlib.Nat.{le-trans, min-eq-left, min-eq-right, min-le-right}
 use native.Mathlib.Omega.{arith}
 use borrow.Author.Needs.{needs}
