@@ -38,7 +38,7 @@ unfoldable pub pcmOf : List Float → List ℕ
 pcmOf [] = []
 pcmOf (x ∷ xs) = bits16 (levelOf x) % 256 ∷ bits16 (levelOf x) / 256 ∷ pcmOf xs
 
--- n is the number that `halfUp` gives: n − 1/2 ≤ a / b < n + 1/2
+-- the number n that `halfUp` gives is the nearest: n − 1/2 ≤ a / b < n + 1/2
 pub half-up-is-nearest : (a b : ℕ) → 0 < b → (2 * halfUp a b * b ≤ 2 * a + b) × (2 * a < (2 * halfUp a b + 1) * b)
 half-up-is-nearest a b h =
     let n = halfUp a b in
@@ -48,7 +48,7 @@ half-up-is-nearest a b h =
     let more : (2 * n + 1) * b ≡ 2 * n * b + 1 * b = add-mul (2 * n) 1 b in
     (omega arith, omega arith)
 
--- n half steps, as a float: n / 65536
+-- `fin s m e` is m * 2 ^ e, downward where s is true, and `negsuc k` is −(k + 1). So this is n half steps: n / 65536
 abbrev halves : Bool → ℕ → Float
 halves s n = fin s n (negsuc 15)
 
@@ -70,7 +70,7 @@ pub examples :
 unfolding levelOf
 examples = (refl, refl, refl, refl, refl, refl, refl, refl, refl, refl, refl, refl, refl, refl, refl, refl, refl, refl, refl, refl)
 
--- 0.5, −0.5 and −1 step
+-- 0.5, −0.5 and one step down
 pub example-bytes : pcmOf (fin false 1 (negsuc 0) ∷ fin true 1 (negsuc 0) ∷ fin true 1 (negsuc 14) ∷ []) ≡ 0 ∷ 64 ∷ 0 ∷ 192 ∷ 255 ∷ 255 ∷ []
 unfolding pcmOf levelOf
 example-bytes = refl

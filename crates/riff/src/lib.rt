@@ -1,4 +1,5 @@
 // The bytes of a RIFF WAVE file: a header of 44 bytes, then 16-bit stereo.
+// A pattern's sign has the weight 2^31 = 2147483648, its exponent's field 2^23 = 8388608.
 ghost use mathlib.Core.Path.{_≡_};
 ghost use Prim.Native.Nat.{_+_, _*_, _/_, _%_, _^_, _<_, _≤_, min};
 ghost use lib.ListN.{length};
@@ -11,8 +12,8 @@ const FULL: u32 = 32768;
 // What a NaN gives: it is no number.
 const SILENCE: u32 = 0;
 
-// The header, with zeros at its four numbers: its place 4 takes the length of all that follows, 24 the samples of a second,
-// 28 the bytes of a second, 40 the length of the samples.
+// The header, with zeros where its numbers go: at 4 the length of what follows, at 24 the samples a second, at 28 the bytes
+// a second, at 40 the length of the samples.
 const BLANK: [u8; 44] =
     *b"RIFF\0\0\0\0WAVEfmt \x10\0\0\0\x01\0\x02\0\0\0\0\0\0\0\0\0\x04\0\x10\0data\0\0\0\0";
 
@@ -40,8 +41,8 @@ fn nearest(digits: u32, half: u32) -> u32
     raised / (2 * half)
 }
 
-// How many steps of 1/32768 a float is away from zero. In steps it is digits / 2^(135 - field): below field 111 less than
-// a half, from field 127 on 1.0 or more.
+// How many steps of 1/32768 a float is away from zero. At field 127 the leading digit is 1.0, with 23 digits below it, and 1.0 is
+// 2^15 steps: so it is digits / 2^(135 - field) steps. Below field 111 that is less than a half, from field 127 on 1.0 or more.
 fn steps(field: u32, digits: u32) -> u32
     requires { ⌜ (field < 256) × (8388608 ≤ digits) × (digits < 16777216) ⌝ }
     ensures { λ r. ⌜ r ≡ min (halfUp (digits * 2 ^ field) (2 ^ 135)) 32768 ⌝ }
@@ -73,7 +74,7 @@ pub fn word(x: f32) -> u32
     (65536 - away) % 65536
 }
 
-// The samples, two bytes each.
+// The samples, two bytes each, low byte first.
 pub fn write_samples(values: &[f32], bytes: &mut [u8])
     requires { ⌜ length (now bytes) ≡ 2 * length (now values) ⌝ }
     ensures { λ _. ⌜ now (bytes .exit) ≡ pcmOf (now (values .entry)) ⌝ }
