@@ -1,12 +1,15 @@
--- The first 44 bytes of a RIFF WAVE file of 16-bit stereo. From Microsoft and IBM's "Multimedia Programming Interface and Data Specifications 1.0":
--- a RIFF chunk of form WAVE that holds a format chunk and a data chunk. E1: "Lengths in the header are exact."
+-- The 44 bytes before the samples of a RIFF WAVE file. From IBM and Microsoft, "Multimedia Programming Interface and Data
+-- Specifications 1.0": a RIFF chunk of the form WAVE, that holds a format chunk and a data chunk. E1: "Lengths in the header are exact."
 -- Assumes nothing.
 use Prim.Native.Nat.{ℕ, _+_, _-_, _*_, _/_, _%_, _^_, _≤_, _<_}
 use mathlib.Core.Path.{_≡_, refl}
 use mathlib.Core.List.{List, [], _∷_, _++_}
 use native.Mathlib.Nat.{div-div-eq-div-mul}
 use native.Mathlib.Omega.{arith}
+use lib.Dec.{T}
 use lib.ListN.{length, take, drop, set}
+use Rattle.ground.specs.Entries.{each}
+use Rattle.riff.specs.Level.{isByte, byte}
 
 -- a number in two and in four bytes, low byte first
 abbrev pub le16 : ℕ → List ℕ
@@ -32,19 +35,22 @@ dataName = 100 ∷ 97 ∷ 116 ∷ 97 ∷ []
 abbrev pub dataBytes : ℕ → ℕ
 dataBytes frames = 4608 * frames
 
--- what follows the format chunk's name: its length, PCM, two channels, the rate, bytes a second, bytes for one sample of both channels, bits a sample
+-- the format chunk after its name: its length, PCM, two channels, samples a second, bytes a second, bytes of a sample of both
+-- channels, bits of a sample
 abbrev pub formatOf : ℕ → List ℕ
 formatOf rate = le32 16 ++ le16 1 ++ le16 2 ++ le32 rate ++ le32 (4 * rate) ++ le16 4 ++ le16 16
 
--- the RIFF chunk's length counts what comes after it: 36 bytes of this header, and the data
+-- the RIFF chunk's length is that of what follows it: 36 bytes of this header, and the data
 unfoldable pub headerOf : ℕ → ℕ → List ℕ
 headerOf frames rate =
     riffName ++ le32 (36 + dataBytes frames) ++ waveName ++ formatName ++ formatOf rate ++ dataName ++ le32 (dataBytes frames)
 
--- bytes with those of a number stored from a place on
-abbrev pub putAt : List ℕ → ℕ → ℕ → List ℕ
-putAt bytes at n =
-    set (set (set (set bytes at (n % 256)) (at + 1) (n / 256 % 256)) (at + 2) (n / 65536 % 256)) (at + 3) (n / 16777216 % 256)
+-- E1: "A stream with no frame gives a file with no samples and rate 44100."
+pub no-samples : headerOf 0 44100 ≡
+    82 ∷ 73 ∷ 70 ∷ 70 ∷ 36 ∷ 0 ∷ 0 ∷ 0 ∷ 87 ∷ 65 ∷ 86 ∷ 69 ∷ 102 ∷ 109 ∷ 116 ∷ 32 ∷ 16 ∷ 0 ∷ 0 ∷ 0 ∷ 1 ∷ 0 ∷ 2 ∷ 0
+    ∷ 68 ∷ 172 ∷ 0 ∷ 0 ∷ 16 ∷ 177 ∷ 2 ∷ 0 ∷ 4 ∷ 0 ∷ 16 ∷ 0 ∷ 100 ∷ 97 ∷ 116 ∷ 97 ∷ 0 ∷ 0 ∷ 0 ∷ 0 ∷ []
+unfolding headerOf
+no-samples = refl
 
 pub length-header : (frames rate : ℕ) → length (headerOf frames rate) ≡ 44
 unfolding headerOf
@@ -59,9 +65,6 @@ valueOf (b ∷ bs) = b + 256 * valueOf bs
 part : (n d : ℕ) → n / d % 256 + 256 * (n / (d * 256)) ≡ n / d
 part n d = rw (← div-div-eq-div-mul n d 256) (omega arith)
 
-pub le16-back : (n : ℕ) → n < 2 ^ 16 → valueOf (le16 n) ≡ n
-le16-back n h = omega arith
-
 pub le32-back : (n : ℕ) → n < 2 ^ 32 → valueOf (le32 n) ≡ n
 le32-back n h =
     let top : n / 16777216 % 256 + 0 ≡ n / 16777216 = omega arith in
@@ -73,3 +76,12 @@ pub lengths-exact : (frames rate : ℕ) → frames ≤ 900000
     × (valueOf (take 4 (drop 40 (headerOf frames rate))) ≡ dataBytes frames)
 unfolding headerOf
 lengths-exact frames rate h = (le32-back (36 + dataBytes frames) (omega arith), le32-back (dataBytes frames) (omega arith))
+
+pub header-bytes : (frames rate : ℕ) → T (each isByte (headerOf frames rate))
+unfolding headerOf
+header-bytes frames rate = simp byte tt
+
+-- bytes with the four of a number stored from a place on: what `riff::put` does
+abbrev pub putAt : List ℕ → ℕ → ℕ → List ℕ
+putAt bytes at n =
+    set (set (set (set bytes at (n % 256)) (at + 1) (n / 256 % 256)) (at + 2) (n / 65536 % 256)) (at + 3) (n / 16777216 % 256)

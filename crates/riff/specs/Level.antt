@@ -6,9 +6,12 @@ use mathlib.Core.Bool.{Bool, true, false, cond}
 use mathlib.Core.List.{List, [], _∷_}
 use native.Mathlib.Nat.{add-mul, mul-assoc, mul-left-comm, div-add-mod', mod-lt, min-le-right}
 use native.Mathlib.Omega.{arith}
+use borrow.Author.Tests.{lt-ltb}
+use lib.Dec.{T, ltb}
 use lib.IntN.{ℤ, pos, negsuc, negℤ}
 use lib.Ieee.{Float, nan, inf, fin, up, down}
 use lib.ListN.{length, getD}
+use Rattle.ground.specs.Entries.{each}
 
 -- "rounded to the nearest whole number": a / b + 1/2, cut to a whole number, so that a half goes up
 abbrev pub halfUp : ℕ → ℕ → ℕ
@@ -35,7 +38,7 @@ unfoldable pub pcmOf : List Float → List ℕ
 pcmOf [] = []
 pcmOf (x ∷ xs) = bits16 (levelOf x) % 256 ∷ bits16 (levelOf x) / 256 ∷ pcmOf xs
 
--- n is the number that `halfUp` gives: n − 1/2 ≤ a / b < n + 1/2
+-- the number n that `halfUp` gives is the nearest: n − 1/2 ≤ a / b < n + 1/2
 pub half-up-is-nearest : (a b : ℕ) → 0 < b → (2 * halfUp a b * b ≤ 2 * a + b) × (2 * a < (2 * halfUp a b + 1) * b)
 half-up-is-nearest a b h =
     let n = halfUp a b in
@@ -45,7 +48,7 @@ half-up-is-nearest a b h =
     let more : (2 * n + 1) * b ≡ 2 * n * b + 1 * b = add-mul (2 * n) 1 b in
     (omega arith, omega arith)
 
--- n half steps, as a float: n / 65536
+-- `fin s m e` is m * 2 ^ e, downward where s is true, and `negsuc k` is −(k + 1). So this is n half steps: n / 65536
 abbrev halves : Bool → ℕ → Float
 halves s n = fin s n (negsuc 15)
 
@@ -67,7 +70,7 @@ pub examples :
 unfolding levelOf
 examples = (refl, refl, refl, refl, refl, refl, refl, refl, refl, refl, refl, refl, refl, refl, refl, refl, refl, refl, refl, refl)
 
--- 0.5, −0.5 and −1 step
+-- 0.5, −0.5 and one step down
 pub example-bytes : pcmOf (fin false 1 (negsuc 0) ∷ fin true 1 (negsuc 0) ∷ fin true 1 (negsuc 14) ∷ []) ≡ 0 ∷ 64 ∷ 0 ∷ 192 ∷ 255 ∷ 255 ∷ []
 unfolding pcmOf levelOf
 example-bytes = refl
@@ -89,6 +92,19 @@ pub length-pcm : (xs : List Float) → length (pcmOf xs) ≡ 2 * length xs
 unfolding pcmOf
 length-pcm [] = refl
 length-pcm (x ∷ xs) = let r = length-pcm xs in omega arith
+
+abbrev pub isByte : ℕ → Bool
+isByte n = ltb n 256
+
+pub byte : (n : ℕ) → isByte (n % 256) ≡ true
+byte n = lt-ltb (n % 256) 256 (omega arith)
+
+pub pcm-bytes : (xs : List Float) → T (each isByte (pcmOf xs))
+unfolding pcmOf
+pcm-bytes [] = tt
+pcm-bytes (x ∷ xs) =
+    let n = bits16 (levelOf x) in
+    rw (byte n, lt-ltb (n / 256) 256 (omega (arith, sixteen x))) (pcm-bytes xs)
 
 -- the two bytes of sample i
 pub low-byte : (xs : List Float) (i : ℕ) → i < length xs → getD (pcmOf xs) (2 * i) 0 ≡ bits16 (levelOf (getD xs i nan)) % 256

@@ -1,60 +1,48 @@
 // The bytes of a RIFF WAVE file: a header of 44 bytes, then 16-bit stereo.
+// A pattern's sign has the weight 2^31 = 2147483648, its exponent's field 2^23 = 8388608.
 ghost use mathlib.Core.Path.{_≡_};
-ghost use Prim.Native.Nat.{_*_, _^_, _<_, _≤_, min};
+ghost use Prim.Native.Nat.{_+_, _*_, _/_, _%_, _^_, _<_, _≤_, min};
 ghost use lib.ListN.{length};
 ghost use Rattle.riff.specs.Level.{halfUp, levelOf, bits16, pcmOf};
 ghost use Rattle.riff.specs.Header.{putAt, headerOf};
 
-// The header, with zeros for the file's length less 8, the samples and the bytes of a second, and the length of the data.
-const BLANK: [u8; 44] = [
-    b'R',
-    b'I',
-    b'F',
-    b'F',
-    0,
-    0,
-    0,
-    0,
-    b'W',
-    b'A',
-    b'V',
-    b'E',
-    b'f',
-    b'm',
-    b't',
-    b' ',
-    16,
-    0,
-    0,
-    0,
-    1,
-    0,
-    2,
-    0,
-    0,
-    0,
-    0,
-    0,
-    0,
-    0,
-    0,
-    0,
-    4,
-    0,
-    16,
-    0,
-    b'd',
-    b'a',
-    b't',
-    b'a',
-    0,
-    0,
-    0,
-    0,
-];
+// 1.0, in steps of 1/32768.
+const FULL: u32 = 32768;
 
-// How many steps of 1/32768 a float is away from zero: of its exponent's field and its digits with the leading one.
-// In steps it is digits / 2^(135 - field): a half is added, then the fraction is cut. From field 127 on it is 1.0 or more.
+// What a NaN gives: it is no number.
+const SILENCE: u32 = 0;
+
+// The header, with zeros where its numbers go: at 4 the length of what follows, at 24 the samples a second, at 28 the bytes
+// a second, at 40 the length of the samples.
+const BLANK: [u8; 44] =
+    *b"RIFF\0\0\0\0WAVEfmt \x10\0\0\0\x01\0\x02\0\0\0\0\0\0\0\0\0\x04\0\x10\0data\0\0\0\0";
+
+// The exponent's field of a bit pattern.
+fn exponent(bits: u32) -> u32
+    ensures { λ r. ⌜ r ≡ bits % 2147483648 / 8388608 ⌝ }
+{
+    bits % 2147483648 / 8388608
+}
+
+// The 24 digits of a bit pattern, with the leading one.
+fn significand(bits: u32) -> u32
+    ensures { λ r. ⌜ r ≡ 8388608 + bits % 8388608 ⌝ }
+{
+    let below = bits % 8388608;
+    8388608 + below
+}
+
+// digits / (2 * half), to the nearest whole number: a half is added, then the fraction is cut.
+fn nearest(digits: u32, half: u32) -> u32
+    requires { ⌜ (digits < 16777216) × (0 < half) × (half ≤ 8388608) ⌝ }
+    ensures { λ r. ⌜ r ≡ (digits + half) / (2 * half) ⌝ }
+{
+    let raised = digits + half;
+    raised / (2 * half)
+}
+
+// How many steps of 1/32768 a float is away from zero. At field 127 the leading digit is 1.0, with 23 digits below it, and 1.0 is
+// 2^15 steps: so it is digits / 2^(135 - field) steps. Below field 111 that is less than a half, from field 127 on 1.0 or more.
 fn steps(field: u32, digits: u32) -> u32
     requires { ⌜ (field < 256) × (8388608 ≤ digits) × (digits < 16777216) ⌝ }
     ensures { λ r. ⌜ r ≡ min (halfUp (digits * 2 ^ field) (2 ^ 135)) 32768 ⌝ }
@@ -63,9 +51,9 @@ fn steps(field: u32, digits: u32) -> u32
         return 0;
     }
     if field < 127 {
-        return (digits + (1u32 << (134 - field))) >> (135 - field);
+        return nearest(digits, 1u32 << (134 - field));
     }
-    32768
+    FULL
 }
 
 // The 16 bits of a sample. The bits of a NaN are not defined, so a NaN is told apart first.
@@ -73,10 +61,10 @@ pub fn word(x: f32) -> u32
     ensures { λ r. ⌜ r ≡ bits16 (levelOf x) ⌝ }
 {
     if x != x {
-        return 0;
+        return SILENCE;
     }
     let bits = f32::to_bits(x);
-    let away = steps(bits % 2147483648 / 8388608, 8388608 + bits % 8388608);
+    let away = steps(exponent(bits), significand(bits));
     if bits < 2147483648 {
         if away < 32767 {
             return away;
@@ -86,7 +74,7 @@ pub fn word(x: f32) -> u32
     (65536 - away) % 65536
 }
 
-// The samples, two bytes each.
+// The samples, two bytes each, low byte first.
 pub fn write_samples(values: &[f32], bytes: &mut [u8])
     requires { ⌜ length (now bytes) ≡ 2 * length (now values) ⌝ }
     ensures { λ _. ⌜ now (bytes .exit) ≡ pcmOf (now (values .entry)) ⌝ }

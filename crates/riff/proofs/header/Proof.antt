@@ -27,10 +27,13 @@ put-requires-3 c κs = search needs
 put-requires-4 : tie.Need-put-requires-4
 put-requires-4 c κs = search needs
 
-filled : (c : tie.After-put4) → c .put4 .last .0 ≡ headerOf (c .before .before .before .before .before .before .before .before .args .frames) (c .before .before .before .before .before .before .before .before .args .rate)
+filled : (c : tie.After-put4) → let a = c .before .before .before .before .before .before .before .before .args in
+    c .put4 .last .0 ≡ headerOf (a .frames) (a .rate)
 unfolding headerOf
 filled c =
-    rw (c .put4 .ensures, c .before .before .put3 .ensures, c .before .before .before .before .put2 .ensures, c .before .before .before .before .before .before .put .ensures)
+    let third = c .before .before in
+    let second = third .before .before in
+    rw (c .put4 .ensures, third .put3 .ensures, second .put2 .ensures, second .before .before .put .ensures)
 
 returns : tie.Need-returns
 returns c = (filled c, sym (ap length (filled c) ∙ length-header _ _))

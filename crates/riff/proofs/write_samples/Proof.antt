@@ -8,7 +8,7 @@ use mathlib.Core.List.{List}
 use lib.Ieee.{nan}
 use lib.Seq.{ext-getD}
 use Rattle.ground.specs.Table.{table-more}
-use Rattle.riff.specs.Level.{levelOf, pcmOf, sixteen, length-pcm, low-byte, high-byte}
+use Rattle.riff.specs.Level.{pcmOf, sixteen, length-pcm, low-byte, high-byte}
 use Rattle.riff.proofs.write_samples.Statement.{statement}
 use Rattle.riff.proofs.write_samples.Tie as tie
 
@@ -31,8 +31,14 @@ shared-slice-read-word c = search needs
 word-requires : tie.Need-word-requires Inv-loop μ-loop
 word-requires c κs = search needs
 
+-- what `word` gives is 16 bits
+two-bytes : (c : tie.After-word Inv-loop μ-loop) → c .word .result < 65536
+two-bytes c =
+    let values = c .before .before .before .before .before .before .args .values .now in
+    rw (c .word .ensures) (sixteen (getD values (c .before .before .before .loop .i) nan))
+
 cast-bytes : tie.Need-cast-bytes Inv-loop μ-loop
-cast-bytes c = search needs
+cast-bytes c = omega (arith, two-bytes c)
 
 mul-bytes : tie.Need-mul-bytes Inv-loop μ-loop
 mul-bytes c = search needs
@@ -41,9 +47,7 @@ slice-write-bytes : tie.Need-slice-write-bytes Inv-loop μ-loop
 slice-write-bytes c = search needs
 
 cast-bytes-2 : tie.Need-cast-bytes-2 Inv-loop μ-loop
-cast-bytes-2 c =
-    let x = getD (c .before .before .before .before .before .before .args .values .now) (c .before .before .before .loop .i) nan in
-    omega (arith, c .word .ensures, sixteen x)
+cast-bytes-2 c = omega (arith, two-bytes c)
 
 mul-bytes-2 : tie.Need-mul-bytes-2 Inv-loop μ-loop
 mul-bytes-2 c = search needs
@@ -64,16 +68,18 @@ loop-less c = search needs
 pair-more : (f : ℕ → ℕ) (xs : List ℕ) (i : ℕ) → 2 * i + 1 < length xs → ((k : ℕ) → k < 2 * i → getD xs k 0 ≡ f k)
     → (k : ℕ) → k < 2 * (i + 1) → getD (set (set xs (2 * i) (f (2 * i))) (2 * i + 1) (f (2 * i + 1))) k 0 ≡ f k
 pair-more f xs i l r k h =
-    table-more 0 f (set xs (2 * i) (f (2 * i))) (2 * i + 1) (simp length-set (omega arith)) (table-more 0 f xs (2 * i) (omega arith) r) k (omega arith)
+    table-more 0 f (set xs (2 * i) (f (2 * i))) (2 * i + 1) (simp length-set (omega arith))
+    (table-more 0 f xs (2 * i) (omega arith) r) k (omega arith)
 
 loop-again : tie.Need-loop-again Inv-loop μ-loop
 loop-again c =
     let values = c .before .before .before .before .before .before .args .values .now in
     let l = c .before .before .before .loop in
-    let bits = c .word .result in
-    let low : bits % 256 ≡ getD (pcmOf values) (2 * l .i) 0 = ap (λ n. n % 256) (c .word .ensures) ∙ sym (low-byte values (l .i) (omega arith)) in
-    let high : bits / 256 ≡ getD (pcmOf values) (2 * l .i + 1) 0 = ap (λ n. n / 256) (c .word .ensures) ∙ sym (high-byte values (l .i) (omega arith)) in
-    (search needs, simp length-set (search needs), rw (low, high) (pair-more (λ k. getD (pcmOf values) k 0) (l .bytes) (l .i) (omega arith) (l .inv .2)))
+    let f : ℕ → ℕ = λ k. getD (pcmOf values) k 0 in
+    let low : c .word .result % 256 ≡ f (2 * l .i) = ap (λ n. n % 256) (c .word .ensures) ∙ sym (low-byte values (l .i) (omega arith)) in
+    let high : c .word .result / 256 ≡ f (2 * l .i + 1) =
+    ap (λ n. n / 256) (c .word .ensures) ∙ sym (high-byte values (l .i) (omega arith)) in
+    (search needs, simp length-set (search needs), rw (low, high) (pair-more f (l .bytes) (l .i) (omega arith) (l .inv .2)))
 
 same-length : tie.Need-same-length Inv-loop μ-loop
 same-length c = c .before .loop .inv .1 ∙ sym (c .before .before .before .before .pre)
