@@ -1,3 +1,4 @@
 pub mod Frames
 pub mod Turns
 pub mod Rates
+pub mod File

@@ -6,7 +6,7 @@ ghost use mathlib.Core.Path.{_≡_};
 ghost use mathlib.Core.List.{[]};
 ghost use lib.ListN.{length, getD};
 ghost use Rattle.clip.specs.Frames.{clipOf};
-ghost use Rattle.wav.specs.File.{partsOf};
+ghost use Rattle.clip.specs.File.{partsOf};
 
 // Nothing can be written as part i of the file but that part.
 fn put(stream: &[u8], i: usize, bytes: &[u8]) -> bool

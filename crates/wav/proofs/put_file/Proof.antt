@@ -6,7 +6,7 @@ use Rattle.clip.specs.declared.Counted.{Counted}
 use Rattle.clip.specs.Turns.{few-in-clip}
 use Rattle.clip.specs.Rates.{clip-rate-small}
 use Rattle.riff.specs.Header.{headerOf}
-use Rattle.wav.specs.File.{header-part}
+use Rattle.clip.specs.File.{header-part}
 use Rattle.wav.proofs.put_file.Statement.{statement}
 use Rattle.wav.proofs.put_file.Tie as tie
 

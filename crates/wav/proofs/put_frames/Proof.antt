@@ -7,7 +7,7 @@ use lib.ListN.{length, drop, getD}
 use borrow.Author.Needs.{needs}
 use Rattle.clip.specs.Frames.{Turn, clipOf, framesOf}
 use Rattle.clip.specs.Turns.{foundIn, behind, heard-next, begins, found-at}
-use Rattle.wav.specs.File.{frame-part}
+use Rattle.clip.specs.File.{frame-part}
 use Rattle.wav.proofs.put_frames.Statement.{statement}
 use Rattle.wav.proofs.put_frames.Tie as tie
 
