@@ -31,14 +31,23 @@ pub header-part : (s : List ℕ) → (0 < length (partsOf s)) × (headerOf (leng
 unfolding partsOf
 header-part s = (omega arith, refl)
 
-frame-in : (xs : List Heard) (i : ℕ) (d : Heard) → i < length xs → (i < length (framesIn xs)) × (pcmOf (getD xs i d .samples) ≡ getD (framesIn xs) i [])
+module _ (d : Heard) where
+  frame-in : (xs : List Heard) (i : ℕ) → i < length xs → pcmOf (getD xs i d .samples) ≡ getD (framesIn xs) i []
+  unfolding framesIn
+  frame-in (x ∷ xs) zero l = refl
+  frame-in (x ∷ xs) (suc i) l = frame-in xs i (omega arith)
+
+length-frames : (xs : List Heard) → length (framesIn xs) ≡ length xs
 unfolding framesIn
-frame-in (x ∷ xs) zero d l = (omega arith, refl)
-frame-in (x ∷ xs) (suc i) d l = let h = frame-in xs i d (omega arith) in (omega arith, h .1)
+length-frames [] = refl
+length-frames (x ∷ xs) = ap suc (length-frames xs)
+
+pub part-count : (s : List ℕ) → length (partsOf s) ≡ suc (length (clipOf s))
+unfolding partsOf
+part-count s = ap suc (length-frames (clipOf s))
 
 pub frame-part : (s : List ℕ) (i : ℕ) (x : Heard) → i < length (clipOf s) → getD (clipOf s) i x ≡ x
     → (i + 1 < length (partsOf s)) × (pcmOf (x .samples) ≡ getD (partsOf s) (i + 1) [])
 unfolding partsOf
 frame-part s i x l e =
-    let h = frame-in (clipOf s) i x l in
-    (omega (arith, h .0), rw (add-one i) (ap (λ y. pcmOf (y .samples)) (sym e) ∙ h .1))
+    (omega (arith, length-frames (clipOf s)), rw (add-one i) (ap (λ y. pcmOf (y .samples)) (sym e) ∙ frame-in x (clipOf s) i l))

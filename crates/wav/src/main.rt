@@ -4,6 +4,7 @@ use libc::STDOUT_FILENO;
 ghost use Prim.Native.Nat.{_≤_, _<_};
 ghost use mathlib.Core.Path.{_≡_};
 ghost use mathlib.Core.List.{[]};
+ghost use mathlib.Core.Logic.{_⊎_};
 ghost use lib.ListN.{length, getD};
 ghost use Rattle.clip.specs.Frames.{clipOf};
 ghost use Rattle.clip.specs.File.{partsOf};
@@ -15,9 +16,10 @@ fn put(stream: &[u8], i: usize, bytes: &[u8]) -> bool
     io::write_all(STDOUT_FILENO, bytes)
 }
 
-// The second pass: the frames, from a fresh opening. A write that fails ends it.
-fn put_frames(stream: &[u8], frames: usize)
+// The second pass, from a fresh opening: a part for each frame, behind the header. A write that fails ends it.
+fn put_frames(stream: &[u8], frames: usize) -> usize
     requires { ⌜ frames ≡ length (clipOf (now stream)) ⌝ }
+    ensures { λ r. ⌜ (r ≡ length (partsOf (now (stream .entry)))) ⊎ (r ≡ 0) ⌝ }
 {
     let mut memory = [0.0f32; 2048];
     let mut output = [0.0f32; 2304];
@@ -27,24 +29,27 @@ fn put_frames(stream: &[u8], frames: usize)
     while i < frames {
         let reached = clip::next(playing, stream, &mut memory, &mut output);
         riff::write_samples(&output, &mut bytes);
-        i += 1;
-        if put(stream, i, &bytes) {
+        if put(stream, i + 1, &bytes) {
             playing = reached.playing;
+            i += 1;
         } else {
-            return;
+            return 0;
         }
     }
+    i + 1
 }
 
-// The lengths stand before the samples, so the first pass counts.
-fn put_file(stream: &[u8])
+// How many parts are written: all, or 0 where a write failed. The lengths stand before the samples, so the first pass counts.
+fn put_file(stream: &[u8]) -> usize
     requires { ⌜ length (now stream) ≤ 65536 ⌝ }
+    ensures { λ r. ⌜ (r ≡ length (partsOf (now (stream .entry)))) ⊎ (r ≡ 0) ⌝ }
 {
     let counted = clip::count(stream);
     let header = riff::header(counted.frames as u32, counted.rate);
     if put(stream, 0, &header) {
-        put_frames(stream, counted.frames);
+        return put_frames(stream, counted.frames);
     }
+    0
 }
 
 // Of more than 65,536 bytes it writes nothing.

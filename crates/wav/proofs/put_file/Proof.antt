@@ -1,5 +1,6 @@
 use Prim.Native.Nat.{_≤_}
-use mathlib.Core.Path.{ap, _∙_}
+use mathlib.Core.Path.{refl, ap, _∙_}
+use mathlib.Core.Logic.{inr}
 use native.Mathlib.Omega.{arith}
 use borrow.Author.Needs.{needs}
 use Rattle.clip.specs.declared.Counted.{Counted}
@@ -42,7 +43,7 @@ returns : tie.Need-returns
 returns c = search needs
 
 returns-2 : tie.Need-returns-2
-returns-2 c = search needs
+returns-2 c = inr refl
 
 pub put-file-spec : {M : Type 1} → statement M
 put-file-spec =

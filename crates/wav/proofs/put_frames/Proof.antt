@@ -1,20 +1,21 @@
-use Prim.Native.Nat.{suc, _+_, _-_, _<_}
+use Prim.Native.Nat.{suc, _+_, _-_, _<_, _≤_}
 use native.Mathlib.Numerals.{add-one}
-use mathlib.Core.Path.{_≡_, _∙_}
+use mathlib.Core.Path.{_≡_, refl, _∙_}
+use mathlib.Core.Logic.{inl, inr}
 use native.Mathlib.Omega.{arith}
 use lib.Ieee.{ofBits}
 use lib.ListN.{length, drop, getD}
 use borrow.Author.Needs.{needs}
 use Rattle.clip.specs.Frames.{Turn, clipOf, framesOf}
-use Rattle.clip.specs.Turns.{foundIn, behind, heard-next, begins, found-at}
-use Rattle.clip.specs.File.{frame-part}
+use Rattle.clip.specs.Turns.{foundIn, behind, heard-next, few-in-clip, begins, found-at}
+use Rattle.clip.specs.File.{frame-part, part-count}
 use Rattle.wav.proofs.put_frames.Statement.{statement}
 use Rattle.wav.proofs.put_frames.Tie as tie
 
 abbrev Inv-loop : tie.InvT-loop
 Inv-loop stream frames memory₀ output₀ bytes₀ playing₀ i₀ memory output bytes playing i =
     (length memory ≡ 2048) × (length output ≡ 2304) × (length bytes ≡ 4608)
-    × (drop i (clipOf stream) ≡ framesOf (playing .calls) stream memory output (playing .state))
+    × (i ≤ frames) × (drop i (clipOf stream) ≡ framesOf (playing .calls) stream memory output (playing .state))
 
 abbrev μ-loop : tie.MeasureT-loop
 μ-loop stream frames memory₀ output₀ bytes₀ playing₀ i₀ memory output bytes playing i = frames - i
@@ -27,7 +28,7 @@ found c =
     let l = c .before .before .before .before .loop in
     let e = c .next .ensures in
     let inside : l .i < length (clipOf (c .before .before .before .before .before .before .before .before .before .args .stream .now)) = omega arith in
-    let h = found-at _ _ _ _ _ inside (l .inv .3 ∙ heard-next _ _ _ _ _ _ _ _ (e .0) (e .1 .0) (e .1 .1)) in
+    let h = found-at _ _ _ _ _ inside (l .inv .4 ∙ heard-next _ _ _ _ _ _ _ _ (e .0) (e .1 .0) (e .1 .1)) in
     (inside, h .0, h .1)
 
 slice-aggregate-start : tie.Need-slice-aggregate-start Inv-loop μ-loop
@@ -38,7 +39,7 @@ start-requires c κs = search needs
 
 loop-holds : tie.Need-loop-holds Inv-loop μ-loop
 unfolding ofBits
-loop-holds c = let e = c .before .start .ensures in (search needs, search needs, search needs, begins _ _ _ (e .0) (e .1))
+loop-holds c = let e = c .before .start .ensures in (search needs, search needs, search needs, omega arith, begins _ _ _ (e .0) (e .1))
 
 slice-aggregate-next : tie.Need-slice-aggregate-next Inv-loop μ-loop
 slice-aggregate-next c = search needs
@@ -58,8 +59,8 @@ slice-aggregate-write-samples-2 c = search needs
 write-samples-requires : tie.Need-write-samples-requires Inv-loop μ-loop
 write-samples-requires c κs = search needs
 
-add-i : tie.Need-add-i Inv-loop μ-loop
-add-i c = search needs
+add-put : tie.Need-add-put Inv-loop μ-loop
+add-put c = search needs
 
 slice-aggregate-put : tie.Need-slice-aggregate-put Inv-loop μ-loop
 slice-aggregate-put c = search needs
@@ -70,17 +71,23 @@ put-requires c κs =
     let p = frame-part _ _ _ (h .0) (h .1) in
     (p .0, c .before .before .write-samples .ensures ∙ p .1)
 
+add-i : tie.Need-add-i Inv-loop μ-loop
+add-i c = search needs
+
 loop-less : tie.Need-loop-less Inv-loop μ-loop
 loop-less c = search needs
 
 loop-again : tie.Need-loop-again Inv-loop μ-loop
-loop-again c = (search needs, search needs, search needs, rw (add-one (c .before .before .before .before .before .before .before .before .before .before .before .before .before .before .loop .i)) (found (c .before .before .before .before .before .before .before .before .before .before) .2))
+loop-again c = (search needs, search needs, search needs, omega arith, rw (add-one (c .before .before .before .before .before .before .before .before .before .before .before .before .before .before .loop .i)) (found (c .before .before .before .before .before .before .before .before .before .before) .2))
 
 returns : tie.Need-returns Inv-loop μ-loop
-returns c = search needs
+returns c = inr refl
+
+add-result : tie.Need-add-result Inv-loop μ-loop
+add-result c = record { fits = omega (arith, c .before .before .before .before .before .before .good .0, few-in-clip (c .before .before .before .before .before .before .args .stream .now)) }
 
 returns-2 : tie.Need-returns-2 Inv-loop μ-loop
-returns-2 c = search needs
+returns-2 c = inl (omega (arith, part-count (c .before .before .before .before .before .before .args .stream .now)))
 
 pub put-frames-spec : {M : Type 1} → statement M
 put-frames-spec =
@@ -97,10 +104,12 @@ put-frames-spec =
     slice-aggregate-write-samples
     slice-aggregate-write-samples-2
     write-samples-requires
-    add-i
+    add-put
     slice-aggregate-put
     put-requires
+    add-i
     loop-less
     loop-again
     returns
+    add-result
     returns-2)
