@@ -21,6 +21,6 @@ turns s memory output a zero l x m o e f g line h = absurd (omega arith)
 turns s memory output a (suc calls) l x m o e f g line h = let z : suc calls - 1 ≡ calls = omega arith in rw (← h, z, e, f, g)
 
 pub no-call-left : (s : List ℕ) (memory output : List Float) (a : Audio) (calls : ℕ) → calls ≡ 0
-    → turn false 0 a 0 memory output ≡ turnOf calls s memory output a
+    → turn false 0 a calls memory output ≡ turnOf calls s memory output a
 unfolding turnOf
 no-call-left s memory output a calls z = rw z

@@ -58,19 +58,13 @@ pub fn next(playing: Playing, stream: &[u8], memory: &mut [f32], output: &mut [f
                 };
             }
             Line::Refused { .. } => {}
-            Line::End { .. } => {
-                return Reached {
-                    frame: false,
-                    rate: 0,
-                    playing: Playing { state, calls },
-                };
-            }
+            Line::End { .. } => break,
         }
     }
     Reached {
         frame: false,
         rate: 0,
-        playing: Playing { state, calls: 0 },
+        playing: Playing { state, calls },
     }
 }
 

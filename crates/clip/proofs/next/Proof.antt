@@ -64,8 +64,7 @@ same-length-4 c = search needs
 
 returns-2 : tie.Need-returns-2 Inv-loop μ-loop
 returns-2 c =
-    let e = c .before .before .before .before .before .before .before .next-line .ensures in
-    let w = turns _ _ _ _ _ (omega arith) _ _ _ (e .0) (e .1 .0) (e .1 .1) _ (c .enum-told2 .given .1) ∙ c .before .before .before .before .before .before .before .before .before .before .before .loop .inv .2 in
+    let w = no-call-left _ _ _ _ _ (omega arith) ∙ c .before .loop .inv .2 in
     (ap (λ z. z .reached) w, (ap (λ z. z .memory) w, ap (λ z. z .output) w))
 
 same-length-5 : tie.Need-same-length-5 Inv-loop μ-loop
@@ -76,7 +75,8 @@ same-length-6 c = search needs
 
 returns-3 : tie.Need-returns-3 Inv-loop μ-loop
 returns-3 c =
-    let w = no-call-left _ _ _ _ _ (omega arith) ∙ c .before .loop .inv .2 in
+    let e = c .before .before .before .before .before .before .before .next-line .ensures in
+    let w = turns _ _ _ _ _ (omega arith) _ _ _ (e .0) (e .1 .0) (e .1 .1) _ (c .enum-told2 .given .1) ∙ c .before .before .before .before .before .before .before .before .before .before .before .loop .inv .2 in
     (ap (λ z. z .reached) w, (ap (λ z. z .memory) w, ap (λ z. z .output) w))
 
 pub next-spec : {M : Type 1} → statement M
