@@ -31,7 +31,7 @@ pub const SHAPES: [Shape; 3] = [
 ];
 
 /// The code that means 0; smaller ones are above it. With scale factor 0 a code's distance from it counts twice.
-pub const MIDDLE: u16 = 32_767;
+const MIDDLE: u16 = 32_767;
 
 /// Fields one after the other, most significant bit first.
 #[derive(Default)]

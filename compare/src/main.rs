@@ -17,6 +17,8 @@ mod classes;
 mod clock;
 #[cfg(layer = "codes")]
 mod codes;
+#[cfg(layer = "wav")]
+mod corners;
 #[cfg(layer = "decode")]
 mod decode;
 #[cfg(any(layer = "answers", layer = "decode", layer = "bench", layer = "wav"))]

@@ -2,6 +2,7 @@
 
 use crate::by_02::{steps, written, LONGEST};
 use crate::classes::{Clips, STREAMS};
+use crate::corners;
 use crate::files::files;
 use crate::loud;
 use crate::seeded::Seeded;
@@ -31,7 +32,7 @@ const CORNERS: [(&str, fn(f64) -> bool); 7] = [
 ];
 
 fn half(value: f64) -> bool {
-    value.fract().abs() == 0.5 && value.abs() < 32_767.0
+    value.fract().abs() == 0.5 && (-32_768.0..=32_767.0).contains(&value.round())
 }
 
 impl Sound {
@@ -131,9 +132,20 @@ fn stored(layer: &mut Layer) {
         for (second, b) in &clips {
             let name = format!("{}, then {}", first.display(), second.display());
             layer.compare("clips joined", &name, &[&a[..], b].concat());
-            let name = format!("{name}, 1,000 bytes a piece");
-            layer.handed("clips joined, in pieces", &name, &[&a[..], b].concat(), 1_000);
         }
+    }
+}
+
+/// Streams that come in pieces: a read gives what is there, and that need not be all.
+fn in_pieces(layer: &mut Layer, clip: &[u8]) {
+    for (length, piece) in [
+        (clip.len(), 1_000),
+        (LONGEST, 5_000),
+        (LONGEST, LONGEST - 1),
+        (LONGEST + 1, LONGEST),
+    ] {
+        let stream = &clip.repeat(3)[..length];
+        layer.handed("in pieces", &format!("{length} bytes by {piece}"), stream, piece);
     }
 }
 
@@ -153,95 +165,16 @@ fn rounding(layer: &mut Layer) {
     }
     for (number, shape) in loud::SHAPES.iter().enumerate() {
         let stream = loud::fullest(shape, &mut Seeded::new(number as u64));
-        layer.compare(
-            "codes and scale factors at their largest",
-            &format!("shape {number}"),
-            &stream,
-        );
+        layer.compare("fullest codes and scale factors", &format!("shape {number}"), &stream);
     }
 }
 
-/// The longest stream and longer ones, and the most frames: an empty frame is heard of by 8 bytes, header and allocations,
-/// and only the last one must have all 92 bytes of its data.
-fn lengths(layer: &mut Layer, lavender: &[u8]) {
-    let long = lavender.repeat(10);
-    let filled = |byte: u8| vec![byte; LONGEST];
-    for (name, stream) in [
-        ("zeros", filled(0)),
-        ("FF", filled(0xFF)),
-        ("31", filled(0x31)),
-        ("clips", long[..LONGEST].to_vec()),
-    ] {
-        layer.compare("65,536 bytes", name, &stream);
-    }
-    for length in [LONGEST + 1, LONGEST + 2, 2 * LONGEST, 200_000] {
-        layer.compare("more than 65,536 bytes", &format!("{length} bytes"), &long[..length]);
-    }
-    layer.handed(
-        "more than 65,536 bytes",
-        "65,537 bytes in pieces",
-        &long[..LONGEST + 1],
-        LONGEST / 2,
-    );
-    let dense = [0xFF, 0xFD, 0x14, 0xC0, 0, 0, 0, 0].repeat(LONGEST / 8);
-    let samples = layer.compare("8,181 frames", "a header every 8 bytes", &dense);
+fn most_frames(layer: &mut Layer) {
+    let samples = layer.compare("a header every 8 bytes", "8,181 frames", &corners::dense());
+    let length = 44 + 2 * samples.len();
     layer
         .tally
-        .same("the longest file", 44 + 2 * samples.len(), 37_698_092, || {
-            "dense".to_string()
-        });
-    let mut behind = loud::frame(&loud::SHAPES[1], 6, |slot, place| (slot * 1_777 + place * 9_001) as u16);
-    behind.resize(behind.len().div_ceil(8) * 8, 0);
-    behind.extend(&dense[behind.len()..]);
-    layer.compare("8,181 frames", "the same behind a loud frame", &behind);
-}
-
-/// Streams with no frame, junk in front, and formats one after the other.
-fn formats(layer: &mut Layer, lavender: &[u8]) {
-    let s = &mut Seeded::new(2);
-    let start = |header: [u8; 4], length: usize| [&header[..], &vec![0; length][..]].concat();
-    let junk = s.bytes(3_000, |s| s.byte() & 0x7F);
-    for (name, stream) in [
-        ("empty", Vec::new()),
-        ("five bytes of a header", vec![0xFF, 0xFD, 0x14, 0xC0, 0]),
-        ("junk", junk.clone()),
-        ("a frame of 48 kHz, one byte short", start([0xFF, 0xFD, 0x14, 0xC0], 91)),
-        (
-            "a frame of 32 kHz, one byte short",
-            start([0xFF, 0xFD, 0x18, 0xC0], 139),
-        ),
-        (
-            "junk, then a frame of 48 kHz, cut",
-            [&junk[..], &start([0xFF, 0xFD, 0x14, 0xC0], 40)].concat(),
-        ),
-        (
-            "refused with 3, 4 and 5",
-            vec![0xFF, 0xF3, 0xFF, 0xFD, 0, 0xFF, 0xFD, 0xF0, 0xFF, 0xFD, 0x1C, 0, 0, 0],
-        ),
-    ] {
-        layer.compare("no frame", name, &stream);
-    }
-    for length in [1, 5, 36, 44, 600, 3_000] {
-        layer.compare(
-            "junk in front",
-            &format!("{length} bytes"),
-            &[&junk[..length], lavender].concat(),
-        );
-    }
-    let one = |header: [u8; 4], length: usize| start(header, length);
-    let kinds = [
-        one([0xFF, 0xFD, 0x10, 0xC0], 100),
-        one([0xFF, 0xFD, 0x14, 0xC0], 92),
-        one([0xFF, 0xFD, 0x18, 0xC0], 140),
-        one([0xFF, 0xFD, 0x10, 0x00], 100),
-        loud::frame(&loud::SHAPES[2], 9, |slot, place| (slot * 999 + place * 7_001) as u16),
-    ];
-    for (first, a) in kinds.iter().enumerate() {
-        for (second, b) in kinds.iter().enumerate() {
-            let stream = [&a[..], b, a, b, a].concat();
-            layer.compare("formats in turn", &format!("{first} and {second}"), &stream);
-        }
-    }
+        .same("the longest file", length, 37_698_092, || "8,181 frames".to_string());
 }
 
 /// The stream of one seed: the classes of `decode` in turn, and loud frames.
@@ -266,9 +199,12 @@ pub fn compare(tally: &mut Tally, words: &[String]) {
         sound: Sound::default(),
     };
     stored(&mut layer);
+    for (class, name, stream) in corners::named(&lavender) {
+        layer.compare(class, &name, &stream);
+    }
+    in_pieces(&mut layer, &lavender);
     rounding(&mut layer);
-    lengths(&mut layer, &lavender);
-    formats(&mut layer, &lavender);
+    most_frames(&mut layer);
     let clips = Clips::load();
     (first..first + count).for_each(|seed| seeded(&mut layer, seed, &clips));
     layer.sound.print();
