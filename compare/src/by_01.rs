@@ -97,7 +97,7 @@ pub fn by_01(stream: &[u8], at: usize, known: Format) -> Reading {
 }
 
 /// The same for a decode call, with the size of a pending header or 0. A frame's position is its first allocation bit.
-#[cfg(any(layer = "answers", layer = "decode"))]
+#[cfg(any(layer = "answers", layer = "decode", layer = "wav"))]
 pub fn decode_by_01(stream: &[u8], at: usize, known: Format, pending: usize) -> Reading {
     let header = match pending {
         0 => by_01(stream, at, known),

@@ -7,29 +7,37 @@ mod answers;
 mod bench;
 #[cfg(layer = "decode")]
 mod both;
-#[cfg(any(layer = "answers", layer = "header", layer = "decode"))]
+#[cfg(any(layer = "answers", layer = "header", layer = "decode", layer = "wav"))]
 mod by_01;
-#[cfg(layer = "decode")]
+#[cfg(layer = "wav")]
+mod by_02;
+#[cfg(any(layer = "decode", layer = "wav"))]
 mod classes;
 #[cfg(layer = "bench")]
 mod clock;
 #[cfg(layer = "codes")]
 mod codes;
+#[cfg(layer = "wav")]
+mod corners;
 #[cfg(layer = "decode")]
 mod decode;
-#[cfg(any(layer = "answers", layer = "decode", layer = "bench"))]
+#[cfg(any(layer = "answers", layer = "decode", layer = "bench", layer = "wav"))]
 mod files;
 #[cfg(any(layer = "decode", layer = "bench"))]
 #[path = "../../firmware/tag.rs"]
 mod firmware;
-#[cfg(any(layer = "codes", layer = "sound", layer = "decode"))]
+#[cfg(any(layer = "codes", layer = "sound", layer = "decode", layer = "wav"))]
 mod frames;
 #[cfg(layer = "bench")]
 mod grow;
 #[cfg(layer = "header")]
 mod header;
+#[cfg(layer = "wav")]
+mod loud;
 #[cfg(layer = "reader")]
 mod reader;
+#[cfg(any(layer = "bench", layer = "wav"))]
+mod riff;
 #[cfg(layer = "decode")]
 mod saved;
 #[cfg(not(layer = "answers"))]
@@ -37,10 +45,12 @@ mod seeded;
 #[cfg(layer = "sound")]
 mod sound;
 mod source;
-#[cfg(not(any(layer = "answers", layer = "decode")))]
+#[cfg(not(any(layer = "answers", layer = "decode", layer = "wav")))]
 mod tag;
 #[cfg(not(any(layer = "answers", layer = "bench")))]
 mod tally;
+#[cfg(layer = "wav")]
+mod wav;
 #[cfg(layer = "bench")]
 mod wave;
 
@@ -64,7 +74,18 @@ fn main() {
     }
 }
 
-#[cfg(not(any(layer = "answers", layer = "bench")))]
+#[cfg(layer = "wav")]
+fn main() {
+    let words: Vec<String> = std::env::args().skip(1).collect();
+    if words == ["file"] {
+        return wav::write();
+    }
+    let mut tally = tally::Tally::default();
+    wav::compare(&mut tally, &words);
+    std::process::exit(tally.close());
+}
+
+#[cfg(not(any(layer = "answers", layer = "bench", layer = "wav")))]
 fn main() {
     #[cfg(not(layer = "decode"))]
     let count: Option<usize> = std::env::args().nth(1).and_then(|word| word.parse().ok());

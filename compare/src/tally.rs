@@ -71,7 +71,7 @@ pub fn hex(stream: &[u8]) -> String {
 }
 
 /// The first place where two lists differ, with what stands there; a place past the shorter one's end has none.
-#[cfg(any(layer = "codes", layer = "sound"))]
+#[cfg(any(layer = "codes", layer = "sound", layer = "wav"))]
 pub fn first_difference<T: PartialEq + Copy>(ours: &[T], expected: &[T]) -> Option<(usize, Option<T>, Option<T>)> {
     let longer = ours.len().max(expected.len());
     let at = (0..longer).find(|&i| ours.get(i) != expected.get(i))?;

@@ -1,5 +1,6 @@
 //! Ten minutes of sound to encode: tones that wander, noise that comes and goes, the right channel other than the left.
 
+use crate::riff;
 use crate::seeded::Seeded;
 use std::io::{BufWriter, Write};
 use std::path::Path;
@@ -20,13 +21,7 @@ fn value(t: f64, noise: f64, right: bool) -> f64 {
 pub fn write(path: &Path) -> std::io::Result<()> {
     let mut out = BufWriter::new(std::fs::File::create(path)?);
     let bytes = SECONDS * RATE * 4;
-    out.write_all(b"RIFF")?;
-    out.write_all(&(bytes + 36).to_le_bytes())?;
-    out.write_all(b"WAVEfmt \x10\0\0\0\x01\0\x02\0")?;
-    out.write_all(&RATE.to_le_bytes())?;
-    out.write_all(&(RATE * 4).to_le_bytes())?;
-    out.write_all(b"\x04\0\x10\0data")?;
-    out.write_all(&bytes.to_le_bytes())?;
+    out.write_all(&riff::header(RATE, bytes))?;
     let s = &mut Seeded::new(7);
     for i in 0..SECONDS * RATE {
         for right in [false, true] {
