@@ -57,6 +57,8 @@ fn main() {
     let mut stream = [0u8; 65537];
     let n = io::read_full(STDIN_FILENO, &mut stream);
     if n <= 65536 {
-        put_file(&stream[..n]);
+        if put_file(&stream[..n]) == 0 {
+            os::fail(b"standard output");
+        }
     }
 }
