@@ -20,3 +20,4 @@ pub mod Same
 pub mod Example
 pub mod Silence
 pub mod Rows
+pub mod Heard
