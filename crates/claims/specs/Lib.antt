@@ -21,3 +21,4 @@ pub mod Example
 pub mod Silence
 pub mod Rows
 pub mod Heard
+pub mod Wave
