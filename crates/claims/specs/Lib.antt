@@ -20,3 +20,5 @@ pub mod Same
 pub mod Example
 pub mod Silence
 pub mod Rows
+pub mod Heard
+pub mod Wave

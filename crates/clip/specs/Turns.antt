@@ -1,13 +1,15 @@
 -- A clip turn by turn: the frame that a turn finds, and then what is heard from where it ended. So a count of turns is a count of frames.
 -- Assumes nothing.
-use Prim.Native.Nat.{ℕ, zero, suc, _+_, _/_, _≤_, _<_}
+use Prim.Native.Nat.{ℕ, zero, suc, _+_, _-_, _/_, _≤_, _<_}
 use mathlib.Core.Path.{_≡_, refl, ap, sym, _∙_}
-use mathlib.Core.Bool.{true, false, cond}
+use mathlib.Core.Bool.{Bool, true, false, cond}
 use mathlib.Core.List.{List, [], _∷_}
 use native.Mathlib.Omega.{arith}
 use lib.Ieee.{Float}
-use lib.ListN.{length, drop, getD}
+use lib.Dec.{ltb}
+use lib.ListN.{length, drop, getD, length-drop}
 use lib.Seq.{drop-cons}
+use borrow.Author.Tests.{lt-ltb, le-ltb}
 use Rattle.ground.specs.Tests.{by-test}
 use Rattle.audio.specs.Calls.{openMemory, decodeMemory, decodeOutput}
 use Rattle.audio.specs.declared.Audio.{Audio}
@@ -103,3 +105,31 @@ found-at s xs i d t l e =
     size : List Heard → ℕ
     size [] = 0
     size (y ∷ ys) = 1
+
+-- ---- turn after turn, as both passes make them
+
+-- the first from the opening, each other from where the one before it ended
+unfoldable pub turnAt : List ℕ → ℕ → Turn
+turnAt s zero = let p = openedOf s (quiet 2048) in turnOf (p .calls) s (openMemory s (quiet 2048)) (quiet 2304) (p .state)
+turnAt s (suc i) = let t = turnAt s i in let p = t .reached .playing in turnOf (p .calls) s (t .memory) (t .output) (p .state)
+
+from-turn : (s : List ℕ) (i : ℕ) → i ≤ length (clipOf s) → drop i (clipOf s) ≡ heardBy s (turnAt s i)
+unfolding turnAt clipOf
+from-turn s zero l = turn-by-turn (length s / 2 + 2) s _ _ _
+from-turn s (suc i) l =
+    found-at s (clipOf s) i (foundIn (turnAt s i)) (turnAt s i) (omega arith) (from-turn s i (omega arith)) .1 ∙ turn-by-turn _ s _ _ _
+
+-- the first pass counts the turns that find a frame, and the second plays as many: turn i finds one exactly when the clip has a frame i
+pub counted-is-played : (s : List ℕ) (i : ℕ) → i ≤ length (clipOf s) → turnAt s i .reached .frame ≡ ltb i (length (clipOf s))
+counted-is-played s i l = go (turnAt s i .reached .frame) refl
+  where
+    left : length (heardBy s (turnAt s i)) ≡ length (clipOf s) - i
+    left = ap length (sym (from-turn s i l)) ∙ length-drop i (clipOf s)
+
+    go : (found : Bool) → turnAt s i .reached .frame ≡ found → found ≡ ltb i (length (clipOf s))
+    go true e = sym (lt-ltb i (length (clipOf s)) (omega (arith, left, ap length (one-found s (turnAt s i) e))))
+    go false e = sym (le-ltb i (length (clipOf s)) (omega (arith, left, ap length (none-found s (turnAt s i) e))))
+
+-- and it is that frame
+pub plays : (s : List ℕ) (i : ℕ) (d : Heard) → i < length (clipOf s) → getD (clipOf s) i d ≡ foundIn (turnAt s i)
+plays s i d l = found-at s (clipOf s) i d (turnAt s i) l (from-turn s i (omega arith)) .0
