@@ -1,12 +1,12 @@
 -- What is heard of a clip: every decoded frame, all at one rate, 2,304 finite samples each. From 02, E1. Assumes nothing.
 use Prim.Native.Nat.{ℕ, zero, suc, _+_, _-_, _*_, _/_, _%_, _≤_, _<_}
 use mathlib.Core.Path.{_≡_, refl, ap, sym, _∙_}
-use mathlib.Core.Bool.{Bool, true, false, _||_}
+use mathlib.Core.Bool.{false, _||_}
 use mathlib.Core.List.{List, [], _∷_}
 use native.Mathlib.Omega.{arith}
 use lib.Dec.{eqb}
-use lib.IntN.{ℤ, pos}
-use lib.Ieee.{Float, nan, inf, fin}
+use lib.IntN.{pos}
+use lib.Ieee.{Float, nan, fin}
 use lib.ListN.{length, getD, length-replicate}
 use borrow.Author.Tests.{eqb-false}
 use Rattle.ground.specs.Tests.{by-test, neither}
@@ -44,13 +44,13 @@ use Rattle.claims.specs.Settled.{stateAfter, moves-on}
 -- ---- one call after the other
 
 -- the call that follows on the same stream, and the first after an opening, as in clipOf
-abbrev after : Call → Call
+abbrev pub after : Call → Call
 after c = record { stream = c .stream; memory = newMemory c; output = newOutput c; state = outcome c .state }
 
-abbrev opening : List ℕ → Call
+abbrev pub opening : List ℕ → Call
 opening s = record { stream = s; memory = openMemory s (quiet 2048); output = quiet 2304; state = openOf s (quiet 2048) .state }
 
-abbrev heardFrom : ℕ → Call → List Heard
+abbrev pub heardFrom : ℕ → Call → List Heard
 heardFrom calls c = framesOf calls (c .stream) (c .memory) (c .output) (c .state)
 
 -- the frame that a call gives
@@ -89,10 +89,10 @@ same-heard number (RefusedAnswer n) a o more others e =
     (λ t. let h = neither (eqb n 1) (eqb n 7) t in e (eqb-false n 1 (h .0)) (eqb-false n 7 (h .1)))
 
 -- neither 8 nor 9 nor 10
-abbrev Begun : Call → Type 0
+abbrev pub Begun : Call → Type 0
 Begun c = Called (c .stream) (c .memory) (c .output) (c .state)
 
-opening-begun : (s : List ℕ) → length s ≤ 16777216 → Begun (opening s)
+pub opening-begun : (s : List ℕ) → length s ≤ 16777216 → Begun (opening s)
 opening-begun s short =
     record {
       lent =
@@ -105,7 +105,7 @@ opening-begun s short =
     }
 
 module _ (c : Call) (b : Begun c) where
-  begun-on : Begun (after c)
+  pub begun-on : Begun (after c)
   begun-on =
       let e = decode-lengths c in
       let l = b .lent .memory-long in
@@ -163,7 +163,7 @@ by-call P calls c none rest frame =
     by-answer P (c .state .frames) (outcome c .answer) (outcome c .state) (newOutput c) (heardFrom calls (after c)) none rest
     (λ time bits e. frame (record { time = time; bits = bits; answer = e }))
 
--- what each call hands on, and gives its frame
+-- what each call hands on, and its frame has by it
 module _ (Q : Call → Type 0) (P : Heard → Type 0) (on : (c : Call) → Q c → Q (after c)) (frame : (c : Call) → Q c → Accepts c → P (heardAt c)) where
   along : (calls : ℕ) (c : Call) → Q c → Every P (heardFrom calls c)
   unfolding framesOf
@@ -176,7 +176,7 @@ module _ (Q : Call → Type 0) (P : Heard → Type 0) (on : (c : Call) → Q c �
   unfolding clipOf
   in-clip s q = along (length s / 2 + 2) (opening s) q
 
--- E1's "every decoded frame": each is 2,304 samples
+-- "every decoded frame": 2,304 samples each
 pub frame-length : (s : List ℕ) (i : ℕ) (d : Heard) → i < length (clipOf s) → length (getD (clipOf s) i d .samples) ≡ 2304
 frame-length s =
     in-clip (λ c. length (c .output) ≡ 2304) (λ x. length (x .samples) ≡ 2304) (λ c e. decode-lengths c .1 ∙ e) (λ c e _. decode-lengths c .1 ∙ e)
@@ -226,19 +226,20 @@ at-one-rate (suc calls) c =
     first : Accepts c → Every (λ x. x .rate ≡ rateOf known) (heardAt c ∷ heardFrom calls (after c))
     first ok =
         first-of (λ x. x .rate ≡ rateOf known) (heardAt c) (heardFrom calls (after c)) refl
-        (along (λ b. b .state .format .samplerate ≡ known) (λ x. x .rate ≡ rateOf known) (λ b e. stays b e) (λ b e _. ap rateOf (stays b e)) calls (after c) refl)
+        (along (λ b. b .state .format .samplerate ≡ known) (λ x. x .rate ≡ rateOf known) stays (λ b e _. ap rateOf (stays b e))
+        calls (after c) refl)
       where
         stays : (b : Call) → b .state .format .samplerate ≡ known → outcome b .state .format .samplerate ≡ known
         stays b e = code-stays b (λ z. frame-known c ok (sym e ∙ z)) ∙ e
 
--- the rate in the header is that of every frame
+-- so the one rate that "the 44-byte header" can say is that of every frame
 pub one-rate : (s : List ℕ) (i : ℕ) (d : Heard) → i < length (clipOf s) → getD (clipOf s) i d .rate ≡ rateIn (clipOf s)
 unfolding clipOf
 one-rate s = at-one-rate (length s / 2 + 2) (opening s)
 
 -- ---- numbers, all of them
 
--- E1: "A sample is multiplied by 32768": it is a number, and no NaN, of which riff says silence, nor an infinity is ever written
+-- "A sample is multiplied by 32768": so it must be a number, and each is, and none is a NaN or an infinity
 pub heard-finite : (s : List ℕ) → length s ≤ 16777216 → (i : ℕ) (d : Heard) → i < length (clipOf s)
     → (j : ℕ) → j < 2304 → Within 8259553 (getD (getD (clipOf s) i d .samples) j nan)
 heard-finite s short =

@@ -14,15 +14,18 @@ use Rattle.ground.specs.Table.{table, length-table}
 use Rattle.buffer.specs.Bits.{bitAt, bitsValue}
 use Rattle.buffer.specs.Calls.{readerAt, readOf, fieldOf, hasOf, skipBytesOf, searchOf}
 use Rattle.grammar.specs.Reads.{_>>=_, run}
+use Rattle.tables.specs.Standard.{rateOf}
 use Rattle.header.specs.Header.{headerOf, startOf, syncOf, seekOf, fieldsOf, identOf, ratesOf, restOf, modeOf, boundOf, checkOf, sizeOf}
 use Rattle.clock.specs.Clock.{startOf as timeOf, sameBits, onTime}
 use Rattle.audio.specs.State.{fresh, numbersOk, inRange}
 use Rattle.audio.specs.Before.{attemptOf, headedOf, enoughOf, readyOf}
-use Rattle.audio.specs.Calls.{answering, afterOf, framedOf, decodeOf, openOf, openMemory}
+use Rattle.audio.specs.Calls.{answering, afterOf, framedOf, decodeOf, blank, openOf, openMemory}
 use Rattle.audio.specs.Numbers.{headingNumber, answerNumber}
 use Rattle.audio.specs.declared.Audio.{Audio}
 use Rattle.audio.specs.declared.Heading.{Heading}
 use Rattle.audio.specs.declared.Heading.the-variants.{Known, Refused}
+use Rattle.listing.specs.Lines.{nextOf}
+use Rattle.clip.specs.Frames.{framesOf, clipOf}
 use Rattle.claims.specs.Numbers.{Lent}
 use Rattle.claims.specs.Pasts.{Past, opened}
 
@@ -72,6 +75,15 @@ pub numbers-occur : verdict (header ++ replicate 622 0) 2048 2304 fresh
     ≡ 0 ∷ 1 ∷ 2 ∷ 3 ∷ 4 ∷ 5 ∷ 6 ∷ 7 ∷ 9 ∷ 10 ∷ []
 unfolding readyOf headedOf attemptOf enoughOf fresh inRange numbersOk onTime sameBits timeOf isNan toBits div ofInt round units odd size headerOf startOf syncOf seekOf searchOf hasOf skipBytesOf fieldOf readOf bitsValue bitAt firstFrom run _>>=_ fieldsOf identOf ratesOf restOf modeOf boundOf checkOf sizeOf
 numbers-occur = refl
+
+-- 192 kbps, 48,000 Hz, stereo, and no data
+abbrev pub cut : List ℕ
+cut = 0xFF ∷ 0xFD ∷ 0xA4 ∷ replicate 3 0
+
+-- no frame is heard of an empty clip, nor of one cut after its header: then E1's rate is 44,100, and not the header's (Wave `no-frame`)
+pub silence-occurs : (clipOf [] ≡ []) × (clipOf cut ≡ []) × (rateOf (attemptOf cut fresh .state .format .samplerate) ≡ 48000)
+unfolding clipOf framesOf nextOf decodeOf openOf openMemory blank table readyOf headedOf attemptOf enoughOf fresh inRange numbersOk onTime sameBits timeOf isNan toBits div ofInt round units odd size headerOf startOf syncOf seekOf searchOf hasOf skipBytesOf fieldOf readOf bitsValue bitAt firstFrom run _>>=_ fieldsOf identOf ratesOf restOf modeOf boundOf checkOf sizeOf
+silence-occurs = (refl, refl, refl)
 
 -- one byte too many
 unfoldable pub long : List ℕ

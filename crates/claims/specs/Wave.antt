@@ -6,24 +6,13 @@ use mathlib.Core.List.{List, [], _∷_, _++_}
 use native.Mathlib.Nat.{zero-add}
 use native.Mathlib.Omega.{arith}
 use lib.IntN.{ℤ}
-use lib.Ieee.{Float, nan, inf, fin, up, down, isNan, toBits, div, ofInt, round, units, odd, size}
+use lib.Ieee.{Float, nan, inf, fin, up, down}
 use lib.ListN.{length, getD, take, drop, length-append, List·getD-append}
 use lib.Seq.{getD-append-add}
-use Rattle.ground.specs.First.{firstFrom}
-use Rattle.ground.specs.Table.{table}
-use Rattle.buffer.specs.Bits.{bitAt, bitsValue}
-use Rattle.buffer.specs.Calls.{readOf, fieldOf, hasOf, skipBytesOf, searchOf}
-use Rattle.grammar.specs.Reads.{_>>=_, run}
-use Rattle.header.specs.Header.{headerOf as headOf, startOf, syncOf, seekOf, fieldsOf, identOf, ratesOf, restOf, modeOf, boundOf, checkOf, sizeOf}
-use Rattle.clock.specs.Clock.{startOf as timeOf, sameBits, onTime}
-use Rattle.audio.specs.State.{fresh, numbersOk, inRange}
-use Rattle.audio.specs.Before.{attemptOf, headedOf, enoughOf, readyOf}
-use Rattle.audio.specs.Calls.{decodeOf, blank, openOf, openMemory}
-use Rattle.listing.specs.Lines.{nextOf}
 use Rattle.riff.specs.Level.{halfUp, held, levelOf, bits16, pcmOf, length-pcm, low-byte, high-byte}
 use Rattle.riff.specs.Header.{headerOf, valueOf, length-header, le32-back, lengths-exact}
 use Rattle.finite.specs.Within.{Within}
-use Rattle.clip.specs.Frames.{Heard, framesOf, clipOf, rateIn}
+use Rattle.clip.specs.Frames.{Heard, clipOf, rateIn}
 use Rattle.clip.specs.Turns.{few-in-clip}
 use Rattle.clip.specs.Rates.{clip-rate-small}
 use Rattle.clip.specs.File.{framesIn, partsOf, joined, fileOf}
@@ -47,12 +36,9 @@ file-length s =
     let frames = joined (framesIn (clipOf s)) in
     omega (arith, length-append header frames, length-header (length (clipOf s)) (rateIn (clipOf s)), joined-length (clipOf s) (frame-length s))
 
--- four bytes of the header stand in the file
-abbrev field : List ℕ → ℕ → ℕ
-field bytes at = valueOf (take 4 (drop at bytes))
-
-in-file : (frames rate : ℕ) (more : List ℕ)
-    → (field (headerOf frames rate ++ more) 4 ≡ field (headerOf frames rate) 4) × (field (headerOf frames rate ++ more) 40 ≡ field (headerOf frames rate) 40)
+-- the file's first 44 bytes are the header's
+in-file : (frames rate : ℕ) (more : List ℕ) → let header = headerOf frames rate in
+    (take 4 (drop 4 (header ++ more)) ≡ take 4 (drop 4 header)) × (take 4 (drop 40 (header ++ more)) ≡ take 4 (drop 40 header))
 unfolding headerOf
 in-file frames rate more = (refl, refl)
 
@@ -67,7 +53,7 @@ file-lengths-exact s short =
     let few : n ≤ 900000 = omega (arith, few-in-clip s) in
     let exact = lengths-exact n rate few in
     let all = file-length s in
-    (same .0 ∙ exact .0 ∙ omega (arith, length-header n rate), same .1 ∙ exact .1 ∙ omega arith)
+    (ap valueOf (same .0) ∙ exact .0 ∙ omega (arith, length-header n rate), ap valueOf (same .1) ∙ exact .1 ∙ omega arith)
 
 -- ---- the rate
 
@@ -123,8 +109,9 @@ module _ (s : List ℕ) (i : ℕ) (d : Heard) (l : i < length (clipOf s)) where
     pub sample-bytes : (getD (fileOf s) (44 + (4608 * i + 2 * j)) 0 ≡ bits16 (levelOf sample) % 256)
         × (getD (fileOf s) (44 + (4608 * i + (2 * j + 1))) 0 ≡ bits16 (levelOf sample) / 256)
     sample-bytes =
-        let many : j < length (getD (clipOf s) i d .samples) = omega (arith, frame-length s i d l) in
-        (file-at (2 * j) (omega arith) ∙ low-byte (getD (clipOf s) i d .samples) j many, file-at (2 * j + 1) (omega arith) ∙ high-byte (getD (clipOf s) i d .samples) j many)
+        let xs = getD (clipOf s) i d .samples in
+        let many : j < length xs = omega (arith, frame-length s i d l) in
+        (file-at (2 * j) (omega arith) ∙ low-byte xs j many, file-at (2 * j + 1) (omega arith) ∙ high-byte xs j many)
 
     -- "A sample is multiplied by 32768, ..": it has a value, so what riff says of a NaN or an infinity is never heard
     pub no-nan-is-written : length s ≤ 16777216 → Leveled sample
@@ -136,8 +123,3 @@ module _ (s : List ℕ) (i : ℕ) (d : Heard) (l : i < length (clipOf s)) where
 pub no-frame : (s : List ℕ) → clipOf s ≡ [] → fileOf s ≡ headerOf 0 44100
 unfolding fileOf partsOf joined framesIn headerOf
 no-frame s e = rw e
-
--- so an empty one, and one whose only header, of 192 kbps and 48 kHz, has no data
-pub no-frame-occurs : (clipOf [] ≡ []) × (clipOf (0xFF ∷ 0xFD ∷ 0xA4 ∷ 0x00 ∷ 0x00 ∷ 0x00 ∷ []) ≡ [])
-unfolding clipOf framesOf nextOf decodeOf openOf openMemory blank table readyOf headedOf attemptOf enoughOf fresh inRange numbersOk onTime sameBits timeOf isNan toBits div ofInt round units odd size headOf startOf syncOf seekOf searchOf hasOf skipBytesOf fieldOf readOf bitsValue bitAt firstFrom run _>>=_ fieldsOf identOf ratesOf restOf modeOf boundOf checkOf sizeOf
-no-frame-occurs = (refl, refl)
