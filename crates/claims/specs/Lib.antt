@@ -22,4 +22,3 @@ pub mod Silence
 pub mod Rows
 pub mod Heard
 pub mod Wave
-pub mod Passes
