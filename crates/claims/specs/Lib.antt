@@ -22,4 +22,5 @@ pub mod Silence
 pub mod Rows
 pub mod Heard
 pub mod Wave
+pub mod Mono
 pub mod Passes
