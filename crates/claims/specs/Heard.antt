@@ -14,7 +14,8 @@ use Rattle.buffer.specs.Calls.{left}
 use Rattle.buffer.specs.declared.Reader.{Reader}
 use Rattle.tables.specs.Standard.{rateOf}
 use Rattle.header.specs.Header.{headerOf}
-use Rattle.header.specs.Accepted.{GoodHeader, header-good}
+use Rattle.header.specs.Accepted.{Same, GoodHeader, header-good}
+use Rattle.header.specs.declared.Format.{Format}
 use Rattle.header.specs.declared.Header.{Header}
 use Rattle.header.specs.declared.Header.the-variants.{Accepted, Refused as HeaderRefused}
 use Rattle.synthesis.specs.Memory.{memory-length}
@@ -60,7 +61,7 @@ heardAt c = record { rate = rateOf (outcome c .state .format .samplerate); sampl
 quiet-length : (n : ℕ) → length (quiet n) ≡ n
 quiet-length n = length-replicate n (fin false 0 (pos 0))
 
-opening-past : (s : List ℕ) → length s ≤ 16777216 → Past (opening s .state) (opening s .memory)
+pub opening-past : (s : List ℕ) → length s ≤ 16777216 → Past (opening s .state) (opening s .memory)
 opening-past s short = opened s (quiet 2048) short (omega (arith, quiet-length 2048))
 
 -- memory and output keep their lengths
@@ -172,7 +173,7 @@ module _ (Q : Call → Type 0) (P : Heard → Type 0) (on : (c : Call) → Q c �
       let rest = along calls (after c) (on c q) in
       by-call (Every P) calls c (λ i d l. absurd (omega arith)) rest (λ ok. first-of P (heardAt c) (heardFrom calls (after c)) (frame c q ok) rest)
 
-  in-clip : (s : List ℕ) → Q (opening s) → Every P (clipOf s)
+  pub in-clip : (s : List ℕ) → Q (opening s) → Every P (clipOf s)
   unfolding clipOf
   in-clip s q = along (length s / 2 + 2) (opening s) q
 
@@ -182,37 +183,41 @@ frame-length s =
     in-clip (λ c. length (c .output) ≡ 2304) (λ x. length (x .samples) ≡ 2304) (λ c e. decode-lengths c .1 ∙ e) (λ c e _. decode-lengths c .1 ∙ e)
     s (quiet-length 2304)
 
--- ---- at one rate
+-- ---- at one rate, and in one mode
 
--- 6 refuses a header of another rate, so a rate once known stays
-attempt-code : (s : List ℕ) (a : Audio) → (a .format .samplerate ≡ 3 → ⊥) → attemptOf s a .state .format .samplerate ≡ a .format .samplerate
+own : (f : Format) → Same f f
+own f = record { bitrate = refl; samplerate = refl; mode = refl }
+
+-- 6 refuses a header of another bit rate, sample rate or mode, so those once known stay
+pub attempt-stays : (s : List ℕ) (a : Audio) → (a .format .samplerate ≡ 3 → ⊥) → Same (a .format) (attemptOf s a .state .format)
 unfolding attemptOf
-attempt-code s a known = let t = headerOf s (a .reader) (a .format) in go (t .header) (t .next) (header-good s (a .reader) (a .format))
+attempt-stays s a known = let t = headerOf s (a .reader) (a .format) in go (t .header) (t .next) (header-good s (a .reader) (a .format))
   where
-    go : (h : Header) (r : Reader) → GoodHeader (a .format) h → seeking a r h .state .format .samplerate ≡ a .format .samplerate
-    go (Accepted f n) r g = g .same known .samplerate
-    go (HeaderRefused n) r g = refl
+    go : (h : Header) (r : Reader) → GoodHeader (a .format) h → Same (a .format) (seeking a r h .state .format)
+    go (Accepted f n) r g = g .same known
+    go (HeaderRefused n) r g = own (a .format)
 
 module _ (c : Call) where
-  abbrev code : ℕ
-  code = c .state .format .samplerate
-
-  frame-code : (h : Heading) (b : Audio) → answering (c .stream) h b .state .format .samplerate ≡ b .format .samplerate
+  frame-stays : (h : Heading) (b : Audio) → Same (b .format) (answering (c .stream) h b .state .format)
   unfolding framedOf afterOf cutFormat
-  frame-code Known b = refl
-  frame-code (Refused n) b = refl
+  frame-stays Known b = record { bitrate = refl; samplerate = refl; mode = refl }
+  frame-stays (Refused n) b = own (b .format)
 
-  code-stays : (code ≡ 3 → ⊥) → outcome c .state .format .samplerate ≡ code
+  pub after-frame : Same (frameState c .format) (outcome c .state .format)
   unfolding decodeOf
-  code-stays known =
-      frame-code (before c .answer) (frameState c)
-      ∙ before-a-frame (c .stream) (c .state) (λ (x : Asked). x .state .format .samplerate ≡ code) (attempt-code (c .stream) (c .state) known)
-      (λ _. refl) (λ _. refl) (λ _ _ e. e) (length (c .memory)) (length (c .output))
+  after-frame = frame-stays (before c .answer) (frameState c)
+
+  pub format-stays : (c .state .format .samplerate ≡ 3 → ⊥) → Same (c .state .format) (outcome c .state .format)
+  format-stays known =
+      let f = c .state .format in
+      let b =
+      before-a-frame (c .stream) (c .state) (λ (x : Asked). Same f (x .state .format)) (attempt-stays (c .stream) (c .state) known)
+      (λ _. own f) (λ _. own f) (λ _ _ e. e) (length (c .memory)) (length (c .output)) in
+      let e = after-frame in
+      record { bitrate = e .bitrate ∙ b .bitrate; samplerate = e .samplerate ∙ b .samplerate; mode = e .mode ∙ b .mode }
 
   frame-known : Accepts c → outcome c .state .format .samplerate ≡ 3 → ⊥
-  unfolding decodeOf
-  frame-known ok e =
-      let l = accepted-leaves c ok .goes .ready .fit .samplerate in let f = frame-code (before c .answer) (frameState c) in omega arith
+  frame-known ok e = let l = accepted-leaves c ok .goes .ready .fit .samplerate in let f = after-frame .samplerate in omega arith
 
 at-one-rate : (calls : ℕ) (c : Call) → let xs = heardFrom calls c in Every (λ x. x .rate ≡ rateIn xs) xs
 unfolding framesOf
@@ -230,7 +235,7 @@ at-one-rate (suc calls) c =
         calls (after c) refl)
       where
         stays : (b : Call) → b .state .format .samplerate ≡ known → outcome b .state .format .samplerate ≡ known
-        stays b e = code-stays b (λ z. frame-known c ok (sym e ∙ z)) ∙ e
+        stays b e = format-stays b (λ z. frame-known c ok (sym e ∙ z)) .samplerate ∙ e
 
 -- so the one rate that "the 44-byte header" can say is that of every frame
 pub one-rate : (s : List ℕ) (i : ℕ) (d : Heard) → i < length (clipOf s) → getD (clipOf s) i d .rate ≡ rateIn (clipOf s)

@@ -22,3 +22,4 @@ pub mod Silence
 pub mod Rows
 pub mod Heard
 pub mod Wave
+pub mod Mono
