@@ -48,10 +48,10 @@ use Rattle.claims.specs.Settled.{stateAfter, moves-on}
 abbrev pub after : Call → Call
 after c = record { stream = c .stream; memory = newMemory c; output = newOutput c; state = outcome c .state }
 
-abbrev pub opening : List ℕ → Call
+abbrev opening : List ℕ → Call
 opening s = record { stream = s; memory = openMemory s (quiet 2048); output = quiet 2304; state = openOf s (quiet 2048) .state }
 
-abbrev pub heardFrom : ℕ → Call → List Heard
+abbrev heardFrom : ℕ → Call → List Heard
 heardFrom calls c = framesOf calls (c .stream) (c .memory) (c .output) (c .state)
 
 -- the frame that a call gives
@@ -90,10 +90,10 @@ same-heard number (RefusedAnswer n) a o more others e =
     (λ t. let h = neither (eqb n 1) (eqb n 7) t in e (eqb-false n 1 (h .0)) (eqb-false n 7 (h .1)))
 
 -- neither 8 nor 9 nor 10
-abbrev pub Begun : Call → Type 0
+abbrev Begun : Call → Type 0
 Begun c = Called (c .stream) (c .memory) (c .output) (c .state)
 
-pub opening-begun : (s : List ℕ) → length s ≤ 16777216 → Begun (opening s)
+opening-begun : (s : List ℕ) → length s ≤ 16777216 → Begun (opening s)
 opening-begun s short =
     record {
       lent =
@@ -106,7 +106,7 @@ opening-begun s short =
     }
 
 module _ (c : Call) (b : Begun c) where
-  pub begun-on : Begun (after c)
+  begun-on : Begun (after c)
   begun-on =
       let e = decode-lengths c in
       let l = b .lent .memory-long in

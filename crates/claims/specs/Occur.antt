@@ -7,7 +7,7 @@ use mathlib.Core.List.{List, [], _∷_, _++_}
 use native.Mathlib.Omega.{arith}
 use lib.IntN.{pos}
 use lib.Ieee.{Float, fin, isNan, toBits, div, ofInt, round, units, odd, size}
-use lib.ListN.{length, replicate}
+use lib.ListN.{length, replicate, length-replicate}
 use borrow.Author.Tests.{lt-ltb}
 use Rattle.ground.specs.First.{firstFrom}
 use Rattle.ground.specs.Table.{table, length-table}
@@ -25,7 +25,7 @@ use Rattle.audio.specs.declared.Audio.{Audio}
 use Rattle.audio.specs.declared.Heading.{Heading}
 use Rattle.audio.specs.declared.Heading.the-variants.{Known, Refused}
 use Rattle.listing.specs.Lines.{nextOf}
-use Rattle.clip.specs.Frames.{framesOf, clipOf}
+use Rattle.clip.specs.Frames.{quiet, framesOf, clipOf}
 use Rattle.claims.specs.Numbers.{Lent}
 use Rattle.claims.specs.Pasts.{Past, opened}
 
@@ -102,15 +102,12 @@ eight-occurs memory output a = simp (lt-ltb 16777216 (length long) many)
 
 -- ---- a call that is lent enough, and a past
 
-abbrev pub quiet : ℕ → List Float
-quiet n = table n (λ _. fin false 0 (pos 0))
-
 pub enough-lent : Lent [] (quiet 2048) (quiet 2304)
 enough-lent =
     record {
       short = omega arith;
-      memory-long = omega (arith, length-table 2048 (λ (_ : ℕ). fin false 0 (pos 0)));
-      output-long = omega (arith, length-table 2304 (λ (_ : ℕ). fin false 0 (pos 0)));
+      memory-long = omega (arith, length-replicate 2048 (fin false 0 (pos 0)));
+      output-long = omega (arith, length-replicate 2304 (fin false 0 (pos 0)));
     }
 
 pub a-past : Past (openOf [] (quiet 2048) .state) (openMemory [] (quiet 2048))
