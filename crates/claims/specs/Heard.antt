@@ -33,7 +33,7 @@ use Rattle.audio.specs.declared.Heading.{Heading}
 use Rattle.audio.specs.declared.Heading.the-variants.{Known, Refused}
 use Rattle.listing.specs.Lines.{lineBy, nextOf}
 use Rattle.listing.specs.declared.Line.{Line}
-use Rattle.clip.specs.Frames.{Heard, hearing, framesOf, quiet, clipOf, rateIn}
+use Rattle.clip.specs.Frames.{Heard, hearing, heardOf, quiet, clipOf, rateIn}
 use Rattle.claims.specs.Pasts.{Past, opened, decoded}
 use Rattle.claims.specs.Accepted.{Call, outcome, newMemory, newOutput, before, frameState, Accepts, before-a-frame, before-keeps, known-leaves, accepted-leaves}
 use Rattle.claims.specs.Finite.{samples-finite}
@@ -52,7 +52,7 @@ abbrev opening : List ℕ → Call
 opening s = record { stream = s; memory = openMemory s (quiet 2048); output = quiet 2304; state = openOf s (quiet 2048) .state }
 
 abbrev heardFrom : ℕ → Call → List Heard
-heardFrom calls c = framesOf calls (c .stream) (c .memory) (c .output) (c .state)
+heardFrom calls c = heardOf calls (c .stream) (c .memory) (c .output) (c .state)
 
 -- the frame that a call gives
 abbrev heardAt : Call → Heard
@@ -123,7 +123,7 @@ module _ (c : Call) (b : Begun c) where
 
 -- 16 bits at least go with each call before an end, and with fewer than 48 left it is one
 ends : (k calls : ℕ) (c : Call) → k < calls → Begun c → left (c .stream) (c .state .reader) < 48 + 16 * k → heardFrom calls c ≡ heardFrom (suc k) c
-unfolding framesOf nextOf
+unfolding heardOf nextOf
 ends k zero c l b few = absurd (omega arith)
 ends zero (suc calls) c l b few =
     same-heard (c .state .frames) (outcome c .answer) (outcome c .state) (newOutput c) _ _
@@ -134,7 +134,7 @@ ends (suc k) (suc calls) c l b few =
 
 -- "every decoded frame": however many more calls one makes, no further frame is heard
 pub every-frame : (s : List ℕ) (more : ℕ) → length s ≤ 16777216
-    → framesOf (length s / 2 + 2 + more) s (openMemory s (quiet 2048)) (quiet 2304) (openOf s (quiet 2048) .state) ≡ clipOf s
+    → heardOf (length s / 2 + 2 + more) s (openMemory s (quiet 2048)) (quiet 2304) (openOf s (quiet 2048) .state) ≡ clipOf s
 unfolding clipOf
 every-frame s more short =
     let e : suc (length s / 2 + 1) ≡ length s / 2 + 2 = omega arith in
@@ -159,7 +159,7 @@ by-answer P number (RefusedAnswer n) a o more none rest frame =
 
 by-call : (P : List Heard → Type 0) (calls : ℕ) (c : Call) → P [] → P (heardFrom calls (after c))
     → (Accepts c → P (heardAt c ∷ heardFrom calls (after c))) → P (heardFrom (suc calls) c)
-unfolding framesOf nextOf
+unfolding heardOf nextOf
 by-call P calls c none rest frame =
     by-answer P (c .state .frames) (outcome c .answer) (outcome c .state) (newOutput c) (heardFrom calls (after c)) none rest
     (λ time bits e. frame (record { time = time; bits = bits; answer = e }))
@@ -167,7 +167,7 @@ by-call P calls c none rest frame =
 -- what each call hands on, and its frame has by it
 module _ (Q : Call → Type 0) (P : Heard → Type 0) (on : (c : Call) → Q c → Q (after c)) (frame : (c : Call) → Q c → Accepts c → P (heardAt c)) where
   along : (calls : ℕ) (c : Call) → Q c → Every P (heardFrom calls c)
-  unfolding framesOf
+  unfolding heardOf
   along zero c q = λ i d l. absurd (omega arith)
   along (suc calls) c q =
       let rest = along calls (after c) (on c q) in
@@ -220,7 +220,7 @@ module _ (c : Call) where
   frame-known ok e = let l = accepted-leaves c ok .goes .ready .fit .samplerate in let f = after-frame .samplerate in omega arith
 
 at-one-rate : (calls : ℕ) (c : Call) → let xs = heardFrom calls c in Every (λ x. x .rate ≡ rateIn xs) xs
-unfolding framesOf
+unfolding heardOf
 at-one-rate zero c = λ i d l. absurd (omega arith)
 at-one-rate (suc calls) c =
     by-call (λ (xs : List Heard). Every (λ x. x .rate ≡ rateIn xs) xs) calls c (λ i d l. absurd (omega arith)) (at-one-rate calls (after c)) first

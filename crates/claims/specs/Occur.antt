@@ -25,7 +25,7 @@ use Rattle.audio.specs.declared.Audio.{Audio}
 use Rattle.audio.specs.declared.Heading.{Heading}
 use Rattle.audio.specs.declared.Heading.the-variants.{Known, Refused}
 use Rattle.listing.specs.Lines.{nextOf}
-use Rattle.clip.specs.Frames.{quiet, framesOf, clipOf}
+use Rattle.clip.specs.Frames.{quiet, heardOf, clipOf}
 use Rattle.claims.specs.Numbers.{Lent}
 use Rattle.claims.specs.Pasts.{Past, opened}
 
@@ -82,7 +82,7 @@ cut = 0xFF ∷ 0xFD ∷ 0xA4 ∷ replicate 3 0
 
 -- no frame is heard of an empty clip, nor of one cut after its header: then E1's rate is 44,100, and not the header's (Wave `no-frame`)
 pub silence-occurs : (clipOf [] ≡ []) × (clipOf cut ≡ []) × (rateOf (attemptOf cut fresh .state .format .samplerate) ≡ 48000)
-unfolding clipOf framesOf nextOf decodeOf openOf openMemory blank table readyOf headedOf attemptOf enoughOf fresh inRange numbersOk onTime sameBits timeOf isNan toBits div ofInt round units odd size headerOf startOf syncOf seekOf searchOf hasOf skipBytesOf fieldOf readOf bitsValue bitAt firstFrom run _>>=_ fieldsOf identOf ratesOf restOf modeOf boundOf checkOf sizeOf
+unfolding clipOf heardOf nextOf decodeOf openOf openMemory blank table readyOf headedOf attemptOf enoughOf fresh inRange numbersOk onTime sameBits timeOf isNan toBits div ofInt round units odd size headerOf startOf syncOf seekOf searchOf hasOf skipBytesOf fieldOf readOf bitsValue bitAt firstFrom run _>>=_ fieldsOf identOf ratesOf restOf modeOf boundOf checkOf sizeOf
 silence-occurs = (refl, refl, refl)
 
 -- one byte too many

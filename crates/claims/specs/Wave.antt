@@ -15,25 +15,25 @@ use Rattle.finite.specs.Within.{Within}
 use Rattle.clip.specs.Frames.{Heard, clipOf, rateIn}
 use Rattle.clip.specs.Turns.{few-in-clip}
 use Rattle.clip.specs.Rates.{clip-rate-small}
-use Rattle.clip.specs.File.{framesIn, partsOf, joined, fileOf}
+use Rattle.clip.specs.File.{frameParts, partsOf, joined, fileOf}
 use Rattle.claims.specs.Heard.{Every, frame-length, one-rate, heard-finite}
 
 -- ---- lengths
 
-joined-length : (xs : List Heard) → Every (λ x. length (x .samples) ≡ 2304) xs → length (joined (framesIn xs)) ≡ 4608 * length xs
-unfolding joined framesIn
+joined-length : (xs : List Heard) → Every (λ x. length (x .samples) ≡ 2304) xs → length (joined (frameParts xs)) ≡ 4608 * length xs
+unfolding joined frameParts
 joined-length [] e = refl
 joined-length (x ∷ xs) e =
     let rest = joined-length xs (λ i d l. e (suc i) d (omega arith)) in
     let many = e 0 x (omega arith) in
-    omega (arith, length-append (pcmOf (x .samples)) (joined (framesIn xs)), length-pcm (x .samples))
+    omega (arith, length-append (pcmOf (x .samples)) (joined (frameParts xs)), length-pcm (x .samples))
 
 -- "the 44-byte header, 16-bit stereo, then every decoded frame"
 pub file-length : (s : List ℕ) → length (fileOf s) ≡ 44 + 4608 * length (clipOf s)
 unfolding fileOf partsOf joined
 file-length s =
     let header = headerOf (length (clipOf s)) (rateIn (clipOf s)) in
-    let frames = joined (framesIn (clipOf s)) in
+    let frames = joined (frameParts (clipOf s)) in
     omega (arith, length-append header frames, length-header (length (clipOf s)) (rateIn (clipOf s)), joined-length (clipOf s) (frame-length s))
 
 -- the file's first 44 bytes are the header's
@@ -49,7 +49,7 @@ unfolding fileOf partsOf joined
 file-lengths-exact s short =
     let n = length (clipOf s) in
     let rate = rateIn (clipOf s) in
-    let same = in-file n rate (joined (framesIn (clipOf s))) in
+    let same = in-file n rate (joined (frameParts (clipOf s))) in
     let few : n ≤ 900000 = omega (arith, few-in-clip s) in
     let exact = lengths-exact n rate few in
     let all = file-length s in
@@ -79,16 +79,16 @@ by-value n (inf s) h = absurd h
 by-value n (fin s m e) h = record { sign = s; digits = m; exponent = e; is = refl; level = refl }
 
 bytes-at : (xs : List Heard) → Every (λ x. length (x .samples) ≡ 2304) xs → (i : ℕ) (d : Heard) → i < length xs → (k : ℕ) → k < 4608
-    → getD (joined (framesIn xs)) (4608 * i + k) 0 ≡ getD (pcmOf (getD xs i d .samples)) k 0
-unfolding joined framesIn
+    → getD (joined (frameParts xs)) (4608 * i + k) 0 ≡ getD (pcmOf (getD xs i d .samples)) k 0
+unfolding joined frameParts
 bytes-at [] e i d l k h = absurd (omega arith)
 bytes-at (x ∷ xs) e zero d l k h =
     rw (zero-add k)
-    (List·getD-append (pcmOf (x .samples)) (joined (framesIn xs)) 0 k (omega (arith, length-pcm (x .samples), e 0 x (omega arith))))
+    (List·getD-append (pcmOf (x .samples)) (joined (frameParts xs)) 0 k (omega (arith, length-pcm (x .samples), e 0 x (omega arith))))
 bytes-at (x ∷ xs) e (suc i) d l k h =
     let up : 4608 * suc i + k ≡ length (pcmOf (x .samples)) + (4608 * i + k) = omega (arith, length-pcm (x .samples), e 0 x (omega arith)) in
-    ap (λ (at : ℕ). getD (pcmOf (x .samples) ++ joined (framesIn xs)) at 0) up
-    ∙ getD-append-add (pcmOf (x .samples)) (joined (framesIn xs)) (4608 * i + k) 0
+    ap (λ (at : ℕ). getD (pcmOf (x .samples) ++ joined (frameParts xs)) at 0) up
+    ∙ getD-append-add (pcmOf (x .samples)) (joined (frameParts xs)) (4608 * i + k) 0
     ∙ bytes-at xs (λ j d l. e (suc j) d (omega arith)) i d (omega arith) k h
 
 module _ (s : List ℕ) (i : ℕ) (d : Heard) (l : i < length (clipOf s)) where
@@ -96,7 +96,7 @@ module _ (s : List ℕ) (i : ℕ) (d : Heard) (l : i < length (clipOf s)) where
   unfolding fileOf partsOf joined
   file-at k h =
       let header = headerOf (length (clipOf s)) (rateIn (clipOf s)) in
-      let frames = joined (framesIn (clipOf s)) in
+      let frames = joined (frameParts (clipOf s)) in
       ap (λ (n : ℕ). getD (header ++ frames) (n + (4608 * i + k)) 0) (sym (length-header (length (clipOf s)) (rateIn (clipOf s))))
       ∙ getD-append-add header frames (4608 * i + k) 0
       ∙ bytes-at (clipOf s) (frame-length s) i d l k h
@@ -121,5 +121,5 @@ module _ (s : List ℕ) (i : ℕ) (d : Heard) (l : i < length (clipOf s)) where
 
 -- "A stream with no frame gives a file with no samples and rate 44100."
 pub no-frame : (s : List ℕ) → clipOf s ≡ [] → fileOf s ≡ headerOf 0 44100
-unfolding fileOf partsOf joined framesIn headerOf
+unfolding fileOf partsOf joined frameParts headerOf
 no-frame s e = rw e

@@ -11,7 +11,7 @@ use Rattle.audio.specs.declared.Audio.{Audio}
 use Rattle.listing.specs.Lines.{nextOf}
 use Rattle.listing.specs.declared.Line.{Line}
 use Rattle.listing.specs.declared.Listed.{Listed}
-use Rattle.clip.specs.Frames.{Turn, turn, turning, turnOf}
+use Rattle.clip.specs.Frames.{turn, turning, turnOf}
 
 pub turns : (s : List ℕ) (memory output : List Float) (a : Audio) (calls : ℕ) → 0 < calls → (x : Listed) (m o : List Float) → x ≡ nextOf s memory output a
     → m ≡ decodeMemory s memory output a → o ≡ decodeOutput s memory output a → (line : Line) → x .line ≡ line

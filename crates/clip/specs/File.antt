@@ -11,12 +11,12 @@ use Rattle.riff.specs.Header.{headerOf}
 use Rattle.riff.specs.Level.{pcmOf}
 
 -- a part for each frame, in order
-unfoldable pub framesIn : List Heard → List (List ℕ)
-framesIn [] = []
-framesIn (x ∷ more) = pcmOf (x .samples) ∷ framesIn more
+unfoldable pub frameParts : List Heard → List (List ℕ)
+frameParts [] = []
+frameParts (x ∷ more) = pcmOf (x .samples) ∷ frameParts more
 
 unfoldable pub partsOf : List ℕ → List (List ℕ)
-partsOf s = headerOf (length (clipOf s)) (rateIn (clipOf s)) ∷ framesIn (clipOf s)
+partsOf s = headerOf (length (clipOf s)) (rateIn (clipOf s)) ∷ frameParts (clipOf s)
 
 -- one after the other
 unfoldable pub joined : List (List ℕ) → List ℕ
@@ -32,13 +32,13 @@ unfolding partsOf
 header-part s = (omega arith, refl)
 
 module _ (d : Heard) where
-  frame-in : (xs : List Heard) (i : ℕ) → i < length xs → pcmOf (getD xs i d .samples) ≡ getD (framesIn xs) i []
-  unfolding framesIn
+  frame-in : (xs : List Heard) (i : ℕ) → i < length xs → pcmOf (getD xs i d .samples) ≡ getD (frameParts xs) i []
+  unfolding frameParts
   frame-in (x ∷ xs) zero l = refl
   frame-in (x ∷ xs) (suc i) l = frame-in xs i (omega arith)
 
-length-frames : (xs : List Heard) → length (framesIn xs) ≡ length xs
-unfolding framesIn
+length-frames : (xs : List Heard) → length (frameParts xs) ≡ length xs
+unfolding frameParts
 length-frames [] = refl
 length-frames (x ∷ xs) = ap suc (length-frames xs)
 

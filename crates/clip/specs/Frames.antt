@@ -20,20 +20,20 @@ pub record Heard : Type 0 where
   pub rate : ℕ
   pub samples : List Float
 
--- what a call adds, by its line: a refusal other than 1 and 7 is no end, "and adds no silence"
+-- what a call adds, by its line: a refusal other than 1 and 7 is no end, and nothing is heard of it
 abbrev pub hearing : Line → List Float → List Heard → List Heard
 hearing (Frame number at rate kbps mode bits time) samples more = record { rate = rate; samples = samples } ∷ more
 hearing (Refused number at) samples more = more
 hearing (End number at) samples more = []
 
 -- the frames of at most so many calls
-unfoldable pub framesOf : ℕ → List ℕ → List Float → List Float → Audio → List Heard
-framesOf zero s memory output a = []
-framesOf (suc calls) s memory output a =
+unfoldable pub heardOf : ℕ → List ℕ → List Float → List Float → Audio → List Heard
+heardOf zero s memory output a = []
+heardOf (suc calls) s memory output a =
     let x = nextOf s memory output a in
     let m = decodeMemory s memory output a in
     let o = decodeOutput s memory output a in
-    hearing (x .line) o (framesOf calls s m o (x .state))
+    hearing (x .line) o (heardOf calls s m o (x .state))
 
 abbrev pub quiet : ℕ → List Float
 quiet n = replicate n (fin false 0 (pos 0))
@@ -43,7 +43,7 @@ abbrev pub openedOf : List ℕ → List Float → Playing
 openedOf s memory = record { state = openOf s memory .state; calls = length s / 2 + 2 }
 
 unfoldable pub clipOf : List ℕ → List Heard
-clipOf s = let p = openedOf s (quiet 2048) in framesOf (p .calls) s (openMemory s (quiet 2048)) (quiet 2304) (p .state)
+clipOf s = let p = openedOf s (quiet 2048) in heardOf (p .calls) s (openMemory s (quiet 2048)) (quiet 2304) (p .state)
 
 -- "A stream with no frame gives a file with no samples and rate 44100."
 abbrev pub rateIn : List Heard → ℕ

@@ -4,10 +4,11 @@ use Prim.Native.Nat.{ℕ, zero, suc, _≤_}
 use mathlib.Core.Bool.{_||_}
 use mathlib.Core.List.{List}
 use native.Mathlib.Omega.{arith}
-use lib.Dec.{eqb}
+use lib.Dec.{eqb, leb, leb→le}
 use lib.Ieee.{Float}
 use Rattle.ground.specs.Tests.{by-test}
-use Rattle.tables.specs.Standard.{rateOf}
+use Rattle.ground.specs.Entries.{entry}
+use Rattle.tables.specs.Standard.{samplingRates, rateOf}
 use Rattle.audio.specs.Calls.{decodeOf, decodeMemory, decodeOutput}
 use Rattle.audio.specs.declared.Audio.{Audio}
 use Rattle.audio.specs.declared.Answer.{Answer}
@@ -15,14 +16,10 @@ use Rattle.audio.specs.declared.Answer.the-variants.{Frame as FrameAnswer, Refu
 use Rattle.listing.specs.Lines.{lineBy, nextOf}
 use Rattle.listing.specs.declared.Line.{Line}
 use Rattle.listing.specs.declared.Line.the-variants.{Frame, Refused, End}
-use Rattle.clip.specs.Frames.{Heard, hearing, framesOf, clipOf, rateIn}
+use Rattle.clip.specs.Frames.{Heard, hearing, heardOf, clipOf, rateIn}
 
 rates-in-the-table : (samplerate : ℕ) → rateOf samplerate ≤ 48000
-rates-in-the-table zero = omega arith
-rates-in-the-table (suc zero) = omega arith
-rates-in-the-table (suc (suc zero)) = omega arith
-rates-in-the-table (suc (suc (suc zero))) = omega arith
-rates-in-the-table (suc (suc (suc (suc more)))) = omega arith
+rates-in-the-table samplerate = leb→le _ _ (entry (λ rate. leb rate 48000) 0 samplingRates tt tt samplerate)
 
 abbrev Small : Line → Type 0
 Small (Frame number at rate kbps mode bits time) = rate ≤ 48000
@@ -38,14 +35,14 @@ small-first (Frame number at rate kbps mode bits time) o more r h = r
 small-first (Refused number at) o more r h = h
 small-first (End number at) o more r h = omega arith
 
-small-rate : (calls : ℕ) (s : List ℕ) (memory output : List Float) (a : Audio) → rateIn (framesOf calls s memory output a) ≤ 48000
-unfolding framesOf nextOf
+small-rate : (calls : ℕ) (s : List ℕ) (memory output : List Float) (a : Audio) → rateIn (heardOf calls s memory output a) ≤ 48000
+unfolding heardOf nextOf
 small-rate zero s memory output a = omega arith
 small-rate (suc calls) s memory output a =
     let x = decodeOf s memory output a in
     let m = decodeMemory s memory output a in
     let o = decodeOutput s memory output a in
-    small-first (lineBy (a .frames) (x .answer) (x .state)) o (framesOf calls s m o (x .state))
+    small-first (lineBy (a .frames) (x .answer) (x .state)) o (heardOf calls s m o (x .state))
     (small-line (a .frames) (x .answer) (x .state)) (small-rate calls s m o (x .state))
 
 pub clip-rate-small : (s : List ℕ) → rateIn (clipOf s) ≤ 48000

@@ -11,12 +11,12 @@ use lib.ListN.{length, drop, getD, length-drop}
 use lib.Seq.{drop-cons}
 use borrow.Author.Tests.{lt-ltb, le-ltb}
 use Rattle.ground.specs.Tests.{by-test}
-use Rattle.audio.specs.Calls.{openMemory, decodeMemory, decodeOutput}
+use Rattle.audio.specs.Calls.{openMemory}
 use Rattle.audio.specs.declared.Audio.{Audio}
 use Rattle.listing.specs.Lines.{nextOf}
 use Rattle.listing.specs.declared.Line.{Line}
 use Rattle.listing.specs.declared.Line.the-variants.{Frame, Refused, End}
-use Rattle.clip.specs.Frames.{Heard, hearing, framesOf, quiet, openedOf, clipOf, rateIn, Turn, turning, turnOf}
+use Rattle.clip.specs.Frames.{Heard, hearing, heardOf, quiet, openedOf, clipOf, Turn, turning, turnOf}
 use Rattle.clip.specs.declared.Playing.{Playing}
 use Rattle.clip.specs.declared.Reached.{Reached}
 
@@ -25,28 +25,29 @@ foundIn t = record { rate = t .reached .rate; samples = t .output }
 
 -- what is heard from where a turn ended
 abbrev pub behind : List ℕ → Turn → List Heard
-behind s t = let p = t .reached .playing in framesOf (p .calls) s (t .memory) (t .output) (p .state)
+behind s t = let p = t .reached .playing in heardOf (p .calls) s (t .memory) (t .output) (p .state)
 
 -- what is heard from where it began
 unfoldable pub heardBy : List ℕ → Turn → List Heard
 heardBy s t = cond (t .reached .frame) (foundIn t ∷ behind s t) []
 
-by-line : (line : Line) (s : List ℕ) (a : Audio) (calls : ℕ) (m o : List Float) (t : Turn) → framesOf calls s m o a ≡ heardBy s t
-    → hearing line o (framesOf calls s m o a) ≡ heardBy s (turning line a calls m o t)
+by-line : (line : Line) (s : List ℕ) (a : Audio) (calls : ℕ) (m o : List Float) (t : Turn) → heardOf calls s m o a ≡ heardBy s t
+    → hearing line o (heardOf calls s m o a) ≡ heardBy s (turning line a calls m o t)
 unfolding heardBy
 by-line (Frame number at rate kbps mode bits time) s a calls m o t e = refl
 by-line (Refused number at) s a calls m o t e = e
 by-line (End number at) s a calls m o t e = refl
 
-pub turn-by-turn : (calls : ℕ) (s : List ℕ) (memory output : List Float) (a : Audio) → framesOf calls s memory output a ≡ heardBy s (turnOf calls s memory output a)
-unfolding framesOf turnOf heardBy
+pub turn-by-turn : (calls : ℕ) (s : List ℕ) (memory output : List Float) (a : Audio)
+    → heardOf calls s memory output a ≡ heardBy s (turnOf calls s memory output a)
+unfolding heardOf turnOf heardBy
 turn-by-turn zero s memory output a = refl
 turn-by-turn (suc calls) s memory output a =
     let x = nextOf s memory output a in by-line (x .line) s (x .state) calls _ _ _ (turn-by-turn calls s _ _ (x .state))
 
 -- a turn by what `next` gives, part by part
 pub heard-next : (calls : ℕ) (s : List ℕ) (memory output : List Float) (a : Audio) (r : Reached) (m o : List Float) → let t = turnOf calls s memory output a in
-    r ≡ t .reached → m ≡ t .memory → o ≡ t .output → framesOf calls s memory output a ≡ heardBy s (record { reached = r; memory = m; output = o })
+    r ≡ t .reached → m ≡ t .memory → o ≡ t .output → heardOf calls s memory output a ≡ heardBy s (record { reached = r; memory = m; output = o })
 heard-next calls s memory output a r m o e f g = turn-by-turn calls s memory output a ∙ rw (e, f, g)
 
 -- no more frames than calls
@@ -55,8 +56,8 @@ one-at-most (Frame number at rate kbps mode bits time) o more calls l = omega ar
 one-at-most (Refused number at) o more calls l = omega arith
 one-at-most (End number at) o more calls l = omega arith
 
-few : (calls : ℕ) (s : List ℕ) (memory output : List Float) (a : Audio) → length (framesOf calls s memory output a) ≤ calls
-unfolding framesOf
+few : (calls : ℕ) (s : List ℕ) (memory output : List Float) (a : Audio) → length (heardOf calls s memory output a) ≤ calls
+unfolding heardOf
 few zero s memory output a = omega arith
 few (suc calls) s memory output a = let x = nextOf s memory output a in one-at-most (x .line) _ _ calls (few calls s _ _ (x .state))
 
@@ -67,18 +68,9 @@ few-in-clip s = few (length s / 2 + 2) s _ _ _
 -- ---- for the passes: the opening, and what a turn from it, or from anywhere, says of what is heard there
 
 pub begins : (s : List ℕ) (p : Playing) (m : List Float) → p ≡ openedOf s (quiet 2048) → m ≡ openMemory s (quiet 2048)
-    → clipOf s ≡ framesOf (p .calls) s m (quiet 2304) (p .state)
+    → clipOf s ≡ heardOf (p .calls) s m (quiet 2304) (p .state)
 unfolding clipOf
 begins s p m e f = rw (e, f)
-
-module _ (s : List ℕ) (xs : List Heard) (t : Turn) (is : xs ≡ heardBy s t) where
-  pub found-rate : t .reached .frame ≡ true → t .reached .rate ≡ rateIn xs
-  unfolding heardBy
-  found-rate e = rw (is, e)
-
-  pub no-rate : t .reached .frame ≡ false → 44100 ≡ rateIn xs
-  unfolding heardBy
-  no-rate e = rw (is, e)
 
 pub one-found : (s : List ℕ) (t : Turn) → t .reached .frame ≡ true → heardBy s t ≡ foundIn t ∷ behind s t
 unfolding heardBy
@@ -96,15 +88,11 @@ pub found-at : (s : List ℕ) (xs : List Heard) (i : ℕ) (d : Heard) (t : Turn)
     → (getD xs i d ≡ foundIn t) × (drop (suc i) xs ≡ behind s t)
 unfolding heardBy
 found-at s xs i d t l e =
-    by-test P (t .reached .frame) _ _ (λ _ h. (ap (λ ys. getD ys 0 d) h, ap (drop 1) h)) (λ _ h. absurd (let z : _≡_ {A = ℕ} 1 0 = ap size h in omega arith))
+    by-test P (t .reached .frame) _ _ (λ _ h. (ap (λ ys. getD ys 0 d) h, ap (drop 1) h)) (λ _ h. absurd (let z = ap length h in omega arith))
     (sym (drop-cons xs i d l) ∙ e)
   where
     P : List Heard → Type 0
     P ys = getD xs i d ∷ drop (suc i) xs ≡ ys → (getD xs i d ≡ foundIn t) × (drop (suc i) xs ≡ behind s t)
-
-    size : List Heard → ℕ
-    size [] = 0
-    size (y ∷ ys) = 1
 
 -- ---- turn after turn, as both passes make them
 

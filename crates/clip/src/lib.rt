@@ -2,8 +2,6 @@
 use audio::Audio;
 use listing::Line;
 ghost use mathlib.Core.Path.{_≡_};
-ghost use Prim.Native.Nat.{_≤_};
-ghost use lib.ListN.{length};
 ghost use Rattle.audio.specs.Calls.{openMemory};
 ghost use Rattle.clip.specs.Frames.{countOf, turnOf, openedOf};
 

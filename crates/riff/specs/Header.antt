@@ -1,15 +1,12 @@
 -- The 44 bytes before the samples of a RIFF WAVE file. From IBM and Microsoft, "Multimedia Programming Interface and Data
--- Specifications 1.0": a RIFF chunk of the form WAVE, that holds a format chunk and a data chunk. E1: "Lengths in the header are exact."
+-- Specifications 1.0": a RIFF chunk of the form WAVE, that holds a format chunk and a data chunk. 02, E1: "Lengths in the header are exact."
 -- Assumes nothing.
 use Prim.Native.Nat.{ℕ, _+_, _-_, _*_, _/_, _%_, _^_, _≤_, _<_}
 use mathlib.Core.Path.{_≡_, refl}
 use mathlib.Core.List.{List, [], _∷_, _++_}
 use native.Mathlib.Nat.{div-div-eq-div-mul}
 use native.Mathlib.Omega.{arith}
-use lib.Dec.{T}
 use lib.ListN.{length, take, drop, set}
-use Rattle.ground.specs.Entries.{each}
-use Rattle.riff.specs.Level.{isByte, byte}
 
 -- a number in two and in four bytes, low byte first
 abbrev pub le16 : ℕ → List ℕ
@@ -76,10 +73,6 @@ pub lengths-exact : (frames rate : ℕ) → frames ≤ 900000
     × (valueOf (take 4 (drop 40 (headerOf frames rate))) ≡ dataBytes frames)
 unfolding headerOf
 lengths-exact frames rate h = (le32-back (36 + dataBytes frames) (omega arith), le32-back (dataBytes frames) (omega arith))
-
-pub header-bytes : (frames rate : ℕ) → T (each isByte (headerOf frames rate))
-unfolding headerOf
-header-bytes frames rate = simp byte tt
 
 -- bytes with the four of a number stored from a place on: what `riff::put` does
 abbrev pub putAt : List ℕ → ℕ → ℕ → List ℕ

@@ -1,4 +1,4 @@
--- A sample as 16 bits. From E1: "A sample is multiplied by 32768, rounded to the nearest whole number, halves away from zero,
+-- A sample as 16 bits. From 02, E1: "A sample is multiplied by 32768, rounded to the nearest whole number, halves away from zero,
 -- and held within −32768 to 32767. Minus zero is 0." Assumes nothing.
 use Prim.Native.Nat.{ℕ, zero, suc, _+_, _-_, _*_, _/_, _%_, _≤_, _<_, min}
 use mathlib.Core.Path.{_≡_, refl, sym, _∙_}
@@ -6,12 +6,9 @@ use mathlib.Core.Bool.{Bool, true, false, cond}
 use mathlib.Core.List.{List, [], _∷_}
 use native.Mathlib.Nat.{add-mul, mul-assoc, mul-left-comm, div-add-mod', mod-lt, min-le-right}
 use native.Mathlib.Omega.{arith}
-use borrow.Author.Tests.{lt-ltb}
-use lib.Dec.{T, ltb}
 use lib.IntN.{ℤ, pos, negsuc, negℤ}
 use lib.Ieee.{Float, nan, inf, fin, up, down}
 use lib.ListN.{length, getD}
-use Rattle.ground.specs.Entries.{each}
 
 -- "rounded to the nearest whole number": a / b + 1/2, cut to a whole number, so that a half goes up
 abbrev pub halfUp : ℕ → ℕ → ℕ
@@ -92,19 +89,6 @@ pub length-pcm : (xs : List Float) → length (pcmOf xs) ≡ 2 * length xs
 unfolding pcmOf
 length-pcm [] = refl
 length-pcm (x ∷ xs) = let r = length-pcm xs in omega arith
-
-abbrev pub isByte : ℕ → Bool
-isByte n = ltb n 256
-
-pub byte : (n : ℕ) → isByte (n % 256) ≡ true
-byte n = lt-ltb (n % 256) 256 (omega arith)
-
-pub pcm-bytes : (xs : List Float) → T (each isByte (pcmOf xs))
-unfolding pcmOf
-pcm-bytes [] = tt
-pcm-bytes (x ∷ xs) =
-    let n = bits16 (levelOf x) in
-    rw (byte n, lt-ltb (n / 256) 256 (omega (arith, sixteen x))) (pcm-bytes xs)
 
 -- the two bytes of sample i
 pub low-byte : (xs : List Float) (i : ℕ) → i < length xs → getD (pcmOf xs) (2 * i) 0 ≡ bits16 (levelOf (getD xs i nan)) % 256

@@ -9,7 +9,7 @@ use lib.ListN.{length}
 use borrow.Author.Needs.{needs}
 use Rattle.clip.specs.Frames.{Heard, clipOf, rateIn}
 use Rattle.clip.specs.declared.Reached.{Reached}
-use Rattle.clip.specs.Turns.{heardBy, heard-next, few-in-clip, begins, found-rate, no-rate, none-found, one-fewer}
+use Rattle.clip.specs.Turns.{heardBy, heard-next, few-in-clip, begins, one-found, none-found, one-fewer}
 use Rattle.clip.proofs.count.Statement.{statement}
 use Rattle.clip.proofs.count.Tie as tie
 
@@ -48,12 +48,14 @@ loop-holds c =
     let is = begins _ _ _ (o .0) (o .1) ∙ heard-next _ _ _ _ _ _ _ _ (e .0) (e .1 .0) (e .1 .1) in (
       search needs,
       search needs,
-      ⊎-elim (λ w. w .1 ∙ found-rate _ _ _ is (w .0 .taken)) (λ w. w .1 ∙ no-rate _ _ _ is (w .0 .left)) (c .if1 .came),
+      ⊎-elim (λ w. w .1 ∙ sym (ap rateIn (is ∙ one-found _ _ (w .0 .taken)))) (λ w. w .1 ∙ sym (ap rateIn (is ∙ none-found _ _ (w .0 .left)))) (c .if1 .came),
       zero-add _ ∙ ap length (sym is),
     )
 
 add-frames : tie.Need-add-frames Inv-loop μ-loop
-add-frames c = record { fits = omega (arith, c .before .before .before .before .before .before .before .before .before .before .before .before .good .0, few-in-clip (c .before .before .before .before .before .before .before .before .before .before .before .before .args .stream .now)) }
+add-frames c =
+    let entry = c .before .before .before .before .before .before .before .before .before .before .before .before in
+    record { fits = omega (arith, entry .good .0, few-in-clip (entry .args .stream .now)) }
 
 slice-aggregate-next-3 : tie.Need-slice-aggregate-next-3 Inv-loop μ-loop
 slice-aggregate-next-3 c = search needs
@@ -64,7 +66,8 @@ slice-aggregate-next-4 c = search needs
 next-requires-2 : tie.Need-next-requires-2 Inv-loop μ-loop
 next-requires-2 c κs = search needs
 
-one-less : (c : tie.After-output4 Inv-loop μ-loop) → let l = c .before .before .before .before .before .before .before .loop in let n = c .before .before .next2 in let s = c .before .before .before .before .before .before .before .before .before .before .before .before .before .before .before .before .before .before .args .stream .now in
+one-less : (c : tie.After-output4 Inv-loop μ-loop) → let head = c .before .before .before .before .before .before .before in let l = head .loop in let n = c .before .before .next2 in
+    let s = head .before .before .before .before .before .before .before .before .before .before .before .args .stream .now in
     length (heardFrom s (l .at) (l .memory) (l .output)) ≡ suc (length (heardFrom s (n .result) (n .last .1 .1 .0) (n .last .1 .1 .1 .0)))
 one-less c =
     let e = c .before .before .next2 .ensures in
@@ -79,8 +82,9 @@ loop-again c = (search needs, search needs, search needs, omega (arith, one-less
 returns : tie.Need-returns Inv-loop μ-loop
 returns c =
     let l = c .before .loop in
-    let none = none-found (c .before .before .before .before .before .before .before .before .before .before .before .before .args .stream .now) (record { reached = l .at; memory = l .memory; output = l .output }) (c .loop-test .left) in
-    let all : l .frames ≡ length (clipOf (c .before .before .before .before .before .before .before .before .before .before .before .before .args .stream .now)) = omega (arith, l .inv .3, ap length none) in
+    let s = c .before .before .before .before .before .before .before .before .before .before .before .before .args .stream .now in
+    let none = none-found s (record { reached = l .at; memory = l .memory; output = l .output }) (c .loop-test .left) in
+    let all : l .frames ≡ length (clipOf s) = omega (arith, l .inv .3, ap length none) in
     cc (l .inv .2, all)
 
 pub count-spec : {M : Type 1} → statement M

@@ -9,7 +9,8 @@ use Rattle.clip.proofs.next.Tie as tie
 
 abbrev Inv-loop : tie.InvT-loop
 Inv-loop stream memory₀ output₀ state₀ calls₀ memory output state calls =
-    (length memory ≡ length memory₀) × (length output ≡ length output₀) × (turnOf calls stream memory output state ≡ turnOf calls₀ stream memory₀ output₀ state₀)
+    (length memory ≡ length memory₀) × (length output ≡ length output₀)
+    × (turnOf calls stream memory output state ≡ turnOf calls₀ stream memory₀ output₀ state₀)
 
 abbrev μ-loop : tie.MeasureT-loop
 μ-loop stream memory₀ output₀ state₀ calls₀ memory output state calls = calls
@@ -47,10 +48,11 @@ loop-less c = search needs
 
 loop-again : tie.Need-loop-again Inv-loop μ-loop
 loop-again c =
+    let l = c .before .before .before .before .before .before .before .before .before .before .before .loop in
     let e = c .before .before .before .before .before .before .before .next-line .ensures in (
       search needs,
       search needs,
-      turns _ _ _ _ _ (omega arith) _ _ _ (e .0) (e .1 .0) (e .1 .1) _ (c .enum-told .given .1) ∙ c .before .before .before .before .before .before .before .before .before .before .before .loop .inv .2,
+      turns _ _ _ _ _ (omega arith) _ _ _ (e .0) (e .1 .0) (e .1 .1) _ (c .enum-told .given .1) ∙ l .inv .2,
     )
 
 enum-told-2 : tie.Need-enum-told-2 Inv-loop μ-loop
@@ -75,8 +77,9 @@ same-length-6 c = search needs
 
 returns-3 : tie.Need-returns-3 Inv-loop μ-loop
 returns-3 c =
+    let l = c .before .before .before .before .before .before .before .before .before .before .before .loop in
     let e = c .before .before .before .before .before .before .before .next-line .ensures in
-    let w = turns _ _ _ _ _ (omega arith) _ _ _ (e .0) (e .1 .0) (e .1 .1) _ (c .enum-told2 .given .1) ∙ c .before .before .before .before .before .before .before .before .before .before .before .loop .inv .2 in
+    let w = turns _ _ _ _ _ (omega arith) _ _ _ (e .0) (e .1 .0) (e .1 .1) _ (c .enum-told2 .given .1) ∙ l .inv .2 in
     (ap (λ z. z .reached) w, (ap (λ z. z .memory) w, ap (λ z. z .output) w))
 
 pub next-spec : {M : Type 1} → statement M

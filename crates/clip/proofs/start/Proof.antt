@@ -17,7 +17,9 @@ same-length c = search needs
 
 returns : tie.Need-returns
 returns c =
-    let e = c .before .before .before .new .ensures in (ap {B = Playing} (λ x. record { state = x .state; calls = length (c .before .before .before .before .before .before .before .args .stream .now) / 2 + 2 }) (e .0), e .1)
+    let s = c .before .before .before .before .before .before .before .args .stream .now in
+    let e = c .before .before .before .new .ensures in
+    (ap {B = Playing} (λ x. record { state = x .state; calls = length s / 2 + 2 }) (e .0), e .1)
 
 pub start-spec : {M : Type 1} → statement M
 start-spec = tie.close (tie.spec new-requires add-calls same-length returns)

@@ -1,4 +1,4 @@
-use Prim.Native.Nat.{suc, _+_, _-_, _<_, _≤_}
+use Prim.Native.Nat.{suc, _-_, _<_, _≤_}
 use native.Mathlib.Numerals.{add-one}
 use mathlib.Core.Path.{_≡_, refl, _∙_}
 use mathlib.Core.Logic.{inl, inr}
@@ -6,7 +6,7 @@ use native.Mathlib.Omega.{arith}
 use lib.Ieee.{ofBits}
 use lib.ListN.{length, drop, getD}
 use borrow.Author.Needs.{needs}
-use Rattle.clip.specs.Frames.{Turn, clipOf, framesOf}
+use Rattle.clip.specs.Frames.{Turn, clipOf, heardOf}
 use Rattle.clip.specs.Turns.{foundIn, behind, heard-next, few-in-clip, begins, found-at}
 use Rattle.clip.specs.File.{frame-part, part-count}
 use Rattle.wav.proofs.put_frames.Statement.{statement}
@@ -15,15 +15,16 @@ use Rattle.wav.proofs.put_frames.Tie as tie
 abbrev Inv-loop : tie.InvT-loop
 Inv-loop stream frames memory₀ output₀ bytes₀ playing₀ i₀ memory output bytes playing i =
     (length memory ≡ 2048) × (length output ≡ 2304) × (length bytes ≡ 4608)
-    × (i ≤ frames) × (drop i (clipOf stream) ≡ framesOf (playing .calls) stream memory output (playing .state))
+    × (i ≤ frames) × (drop i (clipOf stream) ≡ heardOf (playing .calls) stream memory output (playing .state))
 
 abbrev μ-loop : tie.MeasureT-loop
 μ-loop stream frames memory₀ output₀ bytes₀ playing₀ i₀ memory output bytes playing i = frames - i
 
 -- the turn at frame i finds it: what it leaves is that frame, and what is heard behind it
-found : (c : tie.After-next Inv-loop μ-loop) → let l = c .before .before .before .before .loop in let n = c .next in let clip = clipOf (c .before .before .before .before .before .before .before .before .before .args .stream .now) in
+found : (c : tie.After-next Inv-loop μ-loop) → let l = c .before .before .before .before .loop in let n = c .next in
+    let s = c .before .before .before .before .before .before .before .before .before .args .stream .now in let clip = clipOf s in
     let t : Turn = record { reached = n .result; memory = n .last .1 .1 .0; output = n .last .1 .1 .1 .0 } in
-    (l .i < length clip) × (getD clip (l .i) (foundIn t) ≡ foundIn t) × (drop (suc (l .i)) clip ≡ behind (c .before .before .before .before .before .before .before .before .before .args .stream .now) t)
+    (l .i < length clip) × (getD clip (l .i) (foundIn t) ≡ foundIn t) × (drop (suc (l .i)) clip ≡ behind s t)
 found c =
     let l = c .before .before .before .before .loop in
     let e = c .next .ensures in
@@ -78,13 +79,17 @@ loop-less : tie.Need-loop-less Inv-loop μ-loop
 loop-less c = search needs
 
 loop-again : tie.Need-loop-again Inv-loop μ-loop
-loop-again c = (search needs, search needs, search needs, omega arith, rw (add-one (c .before .before .before .before .before .before .before .before .before .before .before .before .before .before .loop .i)) (found (c .before .before .before .before .before .before .before .before .before .before) .2))
+loop-again c =
+    let turn = c .before .before .before .before .before .before .before .before .before .before in
+    (search needs, search needs, search needs, omega arith, rw (add-one (turn .before .before .before .before .loop .i)) (found turn .2))
 
 returns : tie.Need-returns Inv-loop μ-loop
 returns c = inr refl
 
 add-result : tie.Need-add-result Inv-loop μ-loop
-add-result c = record { fits = omega (arith, c .before .before .before .before .before .before .good .0, few-in-clip (c .before .before .before .before .before .before .args .stream .now)) }
+add-result c =
+    let entry = c .before .before .before .before .before .before in
+    record { fits = omega (arith, entry .good .0, few-in-clip (entry .args .stream .now)) }
 
 returns-2 : tie.Need-returns-2 Inv-loop μ-loop
 returns-2 c = inl (omega (arith, part-count (c .before .before .before .before .before .before .args .stream .now)))
