@@ -1,6 +1,6 @@
 -- The four public calls: for each the answer with the new state, the memory and the output, whatever the input.
 -- From 01, "Numbers a call can give" and "The tag's share of the code".
-use Prim.Native.Nat.{ℕ, _+_, _-_}
+use Prim.Native.Nat.{ℕ, _-_}
 use mathlib.Core.Bool.{cond, false}
 use mathlib.Core.List.{List, _++_}
 use lib.Dec.{eqb, ltb}
@@ -8,23 +8,23 @@ use lib.ListN.{length, drop}
 use lib.IntN.{pos}
 use lib.Ieee.{Float, fin}
 use Rattle.ground.specs.Table.{table}
+use Rattle.buffer.specs.Bits.{longestStream}
 use Rattle.buffer.specs.Calls.{alignOf}
 use Rattle.buffer.specs.declared.Reader.{Reader}
 use Rattle.buffer.specs.declared.Moved.{Moved}
 use Rattle.buffer.specs.declared.Moved.the-variants.{To, Refused as MovedRefused}
 use Rattle.tables.specs.Standard.{rateOf}
-use Rattle.clock.specs.Clock.{startOf}
-use Rattle.synthesis.specs.Slots.{positionAfter}
-use Rattle.frame.specs.Frame.{cutFormat, granulesAt, memoryOf, outputOf}
-use Rattle.audio.specs.State.{fresh, inRange}
-use Rattle.audio.specs.Before.{asked, attemptOf, readyOf}
-use Rattle.audio.specs.declared.Audio.{Audio}
-use Rattle.audio.specs.declared.Heading.{Heading}
-use Rattle.audio.specs.declared.Heading.the-variants.{Known, Refused}
-use Rattle.audio.specs.declared.Asked.{Asked}
+use Rattle.synthesis.specs.Slots.{positionAfter, memoryLength}
+use Rattle.frame.specs.Frame.{cutFormat, granulesAt, frameMemory, frameOutput}
+use Rattle.header.specs.declared.Reading.{Reading}
+use Rattle.state.specs.State.{fresh, inRange, framedTo}
+use Rattle.state.specs.declared.Audio.{Audio}
+use Rattle.verdict.specs.Verdict.{asked, attemptOf, unlessAtOnce, readyOf}
+use Rattle.verdict.specs.declared.Heading.{Heading}
+use Rattle.verdict.specs.declared.Heading.the-variants.{Known, Refused}
+use Rattle.verdict.specs.declared.Asked.{Asked}
 use Rattle.audio.specs.declared.Rate.{Rate}
 use Rattle.audio.specs.declared.Rate.the-variants.{Hertz, Refused as RateRefused}
-use Rattle.audio.specs.declared.Answer.{Answer}
 use Rattle.audio.specs.declared.Answer.the-variants.{Frame, Refused as AnswerRefused}
 use Rattle.audio.specs.declared.Decoded.{Decoded}
 
@@ -43,25 +43,17 @@ unfoldable pub afterOf : List ℕ → Audio → Reader → ℕ → Decoded
 afterOf s a end ring =
     record {
       answer = Frame (a .time) (end .at .0 - a .reader .at .0);
-      state =
-          record {
-            reader = alignedOf s end;
-            format = cutFormat (a .format);
-            frames = a .frames + 1;
-            pending = 0;
-            ring = ring;
-            time = startOf (a .frames + 1) (a .format .samplerate);
-          };
+      state = framedTo (alignedOf s end) (cutFormat (a .format)) ring a;
     }
 
 unfoldable pub framedOf : List ℕ → Audio → Decoded
 framedOf s a = afterOf s a (granulesAt s (a .reader) (a .format) .next) (positionAfter (a .ring) 36)
 
 unfoldable pub framedMemory : List ℕ → Audio → List Float → List Float
-framedMemory s a memory = memoryOf (granulesAt s (a .reader) (a .format) .value) (a .ring) memory
+framedMemory s a memory = frameMemory (granulesAt s (a .reader) (a .format) .value) (a .ring) memory
 
 unfoldable pub framedOutput : List ℕ → Audio → List Float → List Float → List Float
-framedOutput s a memory output = outputOf (granulesAt s (a .reader) (a .format) .value) (a .ring) memory output
+framedOutput s a memory output = frameOutput (granulesAt s (a .reader) (a .format) .value) (a .ring) memory output
 
 -- ---- decode: a frame, or a number, which leaves memory and output as they were
 
@@ -92,22 +84,23 @@ decodeOutput s memory output a =
 -- ---- new: "unless it gives 8 or 9 it fills the memory's first 2,048 values with +0.0"
 
 unfoldable pub blank : List Float
-blank = table 2048 (λ _. fin false 0 (pos 0))
+blank = table memoryLength (λ _. fin false 0 (pos 0))
 
-unfoldable pub openOf : List ℕ → List Float → Asked
-openOf s memory =
-    cond (ltb 16777216 (length s)) (asked (Refused 8) fresh)
-    (cond (ltb (length memory) 2048) (asked (Refused 9) fresh) (attemptOf s fresh))
+-- 8 or 9; or 0
+unfoldable pub noRoomOf : List ℕ → ℕ → ℕ
+noRoomOf s memory = cond (ltb longestStream (length s)) 8 (cond (ltb memory memoryLength) 9 0)
+
+unfoldable pub openOf : Reading → List ℕ → List Float → Asked
+openOf reading s memory = unlessAtOnce (noRoomOf s (length memory)) (fresh reading) (attemptOf s (fresh reading))
 
 unfoldable pub openMemory : List ℕ → List Float → List Float
-openMemory s memory =
-    cond (ltb 16777216 (length s)) memory (cond (ltb (length memory) 2048) memory (blank ++ drop 2048 memory))
+openMemory s memory = cond (eqb (noRoomOf s (length memory)) 0) (blank ++ drop memoryLength memory) memory
 
 -- ---- has_header: "8, 10, then 0 if a header is known, else 1 to 5 or 0"; samplerate: "10, or the rate, which is 0 without a header"
 
 unfoldable pub hasHeaderOf : List ℕ → Audio → Asked
 hasHeaderOf s a =
-    cond (ltb 16777216 (length s)) (asked (Refused 8) a)
+    cond (ltb longestStream (length s)) (asked (Refused 8) a)
     (cond (inRange a) (cond (eqb (a .format .samplerate) 3) (attemptOf s a) (asked Known a)) (asked (Refused 10) a))
 
 unfoldable pub samplerateOf : Audio → Rate

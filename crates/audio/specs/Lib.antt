@@ -1,5 +1,3 @@
-pub mod State
-pub mod Before
 pub mod Calls
+pub mod CallsLaws
 pub mod Numbers
-pub mod Facts

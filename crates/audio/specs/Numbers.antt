@@ -1,8 +1,9 @@
--- The number of 01's table, and the values, that each answer stands for.
+-- The numbers of 01's table by name, and the number that each answer stands for.
 use Prim.Native.Nat.{ℕ}
-use lib.Ieee.{Float}
-use Rattle.audio.specs.declared.Heading.{Heading}
-use Rattle.audio.specs.declared.Heading.the-variants.{Known, Refused}
+use mathlib.Core.Bool.{Bool, _||_}
+use lib.Dec.{eqb}
+use Rattle.verdict.specs.declared.Heading.{Heading}
+use Rattle.verdict.specs.declared.Heading.the-variants.{Known, Refused}
 use Rattle.audio.specs.declared.Rate.{Rate}
 use Rattle.audio.specs.declared.Rate.the-variants.{Hertz, Refused as RateRefused}
 use Rattle.audio.specs.declared.Answer.{Answer}
@@ -19,3 +20,57 @@ rateNumber (RateRefused n) = n
 abbrev pub answerNumber : Answer → ℕ
 answerNumber (Frame time bits) = 0
 answerNumber (AnswerRefused n) = n
+
+-- ---- the numbers, by name: firmware/tag.h has the same
+
+-- frame decoded, or header accepted
+abbrev pub succeeded : ℕ
+succeeded = 0
+
+-- no header pending, fewer than 48 bits remain
+abbrev pub noHeaderCanFollow : ℕ
+noHeaderCanFollow = 1
+
+-- header sought, no sync found
+abbrev pub noSync : ℕ
+noSync = 2
+
+-- another version or layer
+abbrev pub otherLayer : ℕ
+otherLayer = 3
+
+-- a bit-rate field that is no bit rate
+abbrev pub noBitRate : ℕ
+noBitRate = 4
+
+-- a sample-rate field that is no sample rate
+abbrev pub noSampleRate : ℕ
+noSampleRate = 5
+
+-- bit rate, sample rate or mode is not that of the first header
+abbrev pub otherFormat : ℕ
+otherFormat = 6
+
+-- the frame's data does not all remain
+abbrev pub cutOff : ℕ
+cutOff = 7
+
+-- stream above 16,777,216 bytes
+abbrev pub longStream : ℕ
+longStream = 8
+
+-- memory under 2,048 or output under 2,304 values
+abbrev pub littleRoom : ℕ
+littleRoom = 9
+
+-- a state out of range
+abbrev pub badState : ℕ
+badState = 10
+
+-- "On the same stream 1 and 7 repeat for ever": they end it. After any other number a later call may give a frame
+abbrev pub ends : ℕ → Bool
+ends n = eqb n noHeaderCanFollow || eqb n cutOff
+
+-- 8, 9 and 10 are found before anything is read ("same state"): the caller lent or saved something wrong
+abbrev pub callersMistake : ℕ → Bool
+callersMistake n = eqb n longStream || (eqb n littleRoom || eqb n badState)

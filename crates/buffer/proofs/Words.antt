@@ -9,7 +9,7 @@ use native.Mathlib.Omega.{arith}
 use lib.Pow.{pow-mono, mod-pow-add, shr-shr, shl-shr, high, low, field}
 use lib.ListN.{getD}
 use Rattle.buffer.specs.Bits.{bitAt, bitsValue}
-use Rattle.buffer.specs.Laws.{split, below}
+use Rattle.buffer.specs.Laws.{split, bits-below}
 use Rattle.buffer.specs.Calls.{orZero}
 use Rattle.buffer.specs.declared.Reader.{Reader}
 use Rattle.buffer.specs.declared.Read.{Read}
@@ -55,8 +55,8 @@ eight-bytes s i =
 -- n bits out of r + n + m
 amid : (s : List ℕ) (b r n m : ℕ) → bitsValue s b (r + n + m) / 2 ^ m % 2 ^ n ≡ bitsValue s (b + r) n
 amid s b r n m =
-    rw (split s b (r + n) m, high (bitsValue s b (r + n)) m (below s (b + (r + n)) m), split s b r n)
-    (low (bitsValue s b r) n (below s (b + r) n))
+    rw (split s b (r + n) m, high (bitsValue s b (r + n)) m (bits-below s (b + (r + n)) m), split s b r n)
+    (low (bitsValue s b r) n (bits-below s (b + r) n))
 
 -- the n bits from `at`, out of the 8 bytes that begin with its own, as the machine has it
 module _ (s : List ℕ) (at n : ℕ) (narrow : n ≤ 32) where
@@ -79,7 +79,7 @@ module _ (s : List ℕ) (at n : ℕ) (narrow : n ≤ 32) where
       ∙ rw (k, p) at (amid s (at / 8 * 8) r n m)
 
   pub cut-fits : shifted < 2 ^ 32
-  cut-fits = rw cut (lt-of-lt-of-le (below s at n) (pow-mono narrow))
+  cut-fits = rw cut (lt-of-lt-of-le (bits-below s at n) (pow-mono narrow))
 
 -- what is no value reads as 0
 pub not-value : (r : Reader) (x : Read) → ((v : ℕ) (n : Reader) → x ≡ Value v n → ⊥) → record { value = 0; next = r } ≡ orZero r x
@@ -89,4 +89,4 @@ not-value r (Refused n) h = refl
 
 -- the first bits of a field of at most 32, with the next one: what the machine keeps of it fits
 pub double-fits : (s : List ℕ) (at n v : ℕ) → v ≡ bitsValue s at n → n < 32 → v * 2 + 1 < 2 ^ 32
-double-fits s at n v e l = let b : v < 2 ^ 31 = rw e (lt-of-lt-of-le (below s at n) (pow-mono (le-of-suc-le-suc l))) in omega arith
+double-fits s at n v e l = let b : v < 2 ^ 31 = rw e (lt-of-lt-of-le (bits-below s at n) (pow-mono (le-of-suc-le-suc l))) in omega arith

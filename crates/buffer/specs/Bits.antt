@@ -7,6 +7,14 @@ use lib.ListN.{getD, length}
 use lib.Dec.{eqb}
 use Rattle.ground.specs.First.{firstFrom}
 
+-- the bytes that a stream has at most: 01, number 8
+abbrev pub longestStream : ℕ
+longestStream = 16777216
+
+-- the bit position that a state has at most: 01, "State in range". One byte past the end of the longest stream, where a search can stop
+abbrev pub farthestBit : ℕ
+farthestBit = 134217736
+
 -- bit i of the stream: byte i / 8, and in it the bit of weight 2 ^ (7 - i % 8)
 unfoldable pub bitAt : List ℕ → ℕ → ℕ
 bitAt s i = getD s (i / 8) 0 / 2 ^ (7 - i % 8) % 2

@@ -6,7 +6,7 @@ use mathlib.Core.Path.{_≡_}
 use mathlib.Core.Bool.{cond}
 use lib.ListN.{length}
 use lib.Dec.{ltb, eqb}
-use Rattle.buffer.specs.Bits.{bitsValue, pastOf, stopOf}
+use Rattle.buffer.specs.Bits.{longestStream, farthestBit, bitsValue, pastOf, stopOf}
 use Rattle.buffer.specs.declared.BitIndex.{BitIndex}
 use Rattle.buffer.specs.declared.BytePos.{BytePos}
 use Rattle.buffer.specs.declared.Reader.{Reader}
@@ -29,8 +29,8 @@ abbrev pub readerAt : ℕ → Reader
 readerAt n = record { at = record { 0 = n } }
 
 -- the byte that holds a bit; the first that starts at it or after it; a byte's first bit: only the factor 8 converts
-abbrev pub byteOf : BitIndex → BytePos
-byteOf i = record { 0 = i .0 / 8 }
+abbrev pub bytePosOf : BitIndex → BytePos
+bytePosOf i = record { 0 = i .0 / 8 }
 
 abbrev pub byteAfterOf : BitIndex → BytePos
 byteAfterOf i = record { 0 = (i .0 + 7) / 8 }
@@ -38,9 +38,9 @@ byteAfterOf i = record { 0 = (i .0 + 7) / 8 }
 abbrev pub bitOf : BytePos → BitIndex
 bitOf p = record { 0 = p .0 * 8 }
 
--- every call begins with two refusals. 8: a stream above 16,777,216 bytes; 10: a position above 134,217,736
+-- every call begins with two refusals. 8: a stream that is too long; 10: a position that is too far
 abbrev pub gate : {A : Type 0} → List ℕ → Reader → (ℕ → A) → A → A
-gate s r refuse go = cond (ltb 16777216 (length s)) (refuse 8) (cond (ltb 134217736 (r .at .0)) (refuse 10) go)
+gate s r refuse go = cond (ltb longestStream (length s)) (refuse 8) (cond (ltb farthestBit (r .at .0)) (refuse 10) go)
 
 -- how many bits remain: none past the end
 abbrev pub left : List ℕ → Reader → ℕ
@@ -81,7 +81,7 @@ skipOf s r n = gate s r MovedRefused (cond (ltb (left s r) n) (To r) (To (reader
 
 -- the byte position, rounded down
 unfoldable pub tellOf : List ℕ → Reader → Told
-tellOf s r = gate s r ToldRefused (At (byteOf (r .at)))
+tellOf s r = gate s r ToldRefused (At (bytePosOf (r .at)))
 
 -- aligns and passes the bytes that are v: how many, and the reader after them
 unfoldable pub skipBytesOf : List ℕ → Reader → ℕ → Skipped

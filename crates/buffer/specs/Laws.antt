@@ -10,7 +10,7 @@ use lib.ListN.{getD, length}
 use lib.Dec.{lit<, ltb}
 use borrow.Author.Tests.{le-ltb, ltb-false}
 use Rattle.ground.specs.Tests.{by-test}
-use Rattle.buffer.specs.Bits.{bitAt, bitsValue}
+use Rattle.buffer.specs.Bits.{longestStream, farthestBit, bitAt, bitsValue}
 use Rattle.buffer.specs.Calls.{Fielded, aligned, orZero, readOf, fieldOf, readerAt, left}
 use Rattle.buffer.specs.declared.Reader.{Reader}
 use Rattle.buffer.specs.declared.Field.{Field}
@@ -24,16 +24,16 @@ split s at n zero = simp (add-zero, pow-zero, mul-one)
 split s at n (suc k) = rw (add-suc n k, split s at n k, ← add-assoc at n k, pow-suc) (omega arith)
 
 -- n bits are below 2 ^ n
-pub below : (s : List ℕ) (at n : ℕ) → bitsValue s at n < 2 ^ n
+pub bits-below : (s : List ℕ) (at n : ℕ) → bitsValue s at n < 2 ^ n
 unfolding bitsValue bitAt
-below s at zero = omega arith
-below s at (suc n) =
-    omega (arith, below s at n, mod-lt (getD s ((at + n) / 8) 0 / 2 ^ (7 - (at + n) % 8)) {m = 2} (lit< tt))
+bits-below s at zero = omega arith
+bits-below s at (suc n) =
+    omega (arith, bits-below s at n, mod-lt (getD s ((at + n) / 8) 0 / 2 ^ (7 - (at + n) % 8)) {m = 2} (lit< tt))
 
 -- the reader's refusals 8 and 10 do not arise, and n bits remain
 pub record Enough (s : List ℕ) (r : Reader) (n : ℕ) : Type 0 where
-  pub short : length s ≤ 16777216
-  pub near : r .at .0 ≤ 134217736
+  pub short : length s ≤ longestStream
+  pub near : r .at .0 ≤ farthestBit
   pub enough : n ≤ left s r
 
 -- a field whose bits remain is their value, and moves by its width
@@ -44,11 +44,11 @@ field-whole s r n h l = simp (le-ltb _ _ (h .short), le-ltb _ _ (h .near), le-lt
 
 -- what holds of each refusal and of each value holds of a read
 read-cases : (P : Read → Type 0) (s : List ℕ) (r : Reader) (n : ℕ) → ((k : ℕ) → P (Refused k)) → P Short →
-    (r .at .0 ≤ 134217736 → n ≤ left s r → P (Value (bitsValue s (r .at .0) n) (readerAt (r .at .0 + n)))) → P (readOf s r n)
+    (r .at .0 ≤ farthestBit → n ≤ left s r → P (Value (bitsValue s (r .at .0) n) (readerAt (r .at .0 + n)))) → P (readOf s r n)
 unfolding readOf
 read-cases P s r n refused short whole =
-    by-test P (ltb 16777216 (length s)) _ _ (λ _. refused 8)
-    (λ _. by-test P (ltb 134217736 (r .at .0)) _ _ (λ _. refused 10)
+    by-test P (ltb longestStream (length s)) _ _ (λ _. refused 8)
+    (λ _. by-test P (ltb farthestBit (r .at .0)) _ _ (λ _. refused 10)
     (λ h. by-test P (ltb 32 n) _ _ (λ _. refused 11)
     (λ _. by-test P (ltb (left s r) n) _ _ (λ _. short) (λ k. whole (ltb-false _ _ h) (ltb-false _ _ k)))))
 
@@ -56,7 +56,7 @@ read-cases P s r n refused short whole =
 pub field-small : (s : List ℕ) (r : Reader) (n : ℕ) → fieldOf s r n .value < 2 ^ n
 unfolding fieldOf
 field-small s r n =
-    read-cases (λ x. orZero r x .value < 2 ^ n) s r n (λ _. pow-pos n) (pow-pos n) (λ _ _. below s (r .at .0) n)
+    read-cases (λ x. orZero r x .value < 2 ^ n) s r n (λ _. pow-pos n) (pow-pos n) (λ _ _. bits-below s (r .at .0) n)
 
 -- a reader that went from r to q: not back, not past n bits, nor past the farther of its start and the stream's end
 abbrev pub Moves : List ℕ → Reader → ℕ → Reader → Type 0

@@ -3,3 +3,4 @@ pub mod Calls
 pub mod Numbers
 pub mod Laws
 pub mod Rows
+pub mod PairLaws

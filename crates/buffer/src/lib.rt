@@ -3,14 +3,14 @@
 ghost use mathlib.Core.Path.{_≡_};
 ghost use Prim.Native.Nat.{_+_, _-_, _*_, _≤_, _<_, _/_, _%_, _^_};
 ghost use lib.ListN.{length};
-ghost use Rattle.buffer.specs.Bits.{bitsValue, syncPair, stopOf, pastOf};
-ghost use Rattle.buffer.specs.Calls.{byteOf, byteAfterOf, bitOf, readerAt, readOf, hasOf, endedOf, alignOf, skipOf, Fielded, skipBytesOf, tellOf, searchOf};
+ghost use Rattle.buffer.specs.Bits.{longestStream, farthestBit, bitsValue, syncPair, stopOf, pastOf};
+ghost use Rattle.buffer.specs.Calls.{bytePosOf, byteAfterOf, bitOf, readerAt, readOf, hasOf, endedOf, alignOf, skipOf, Fielded, skipBytesOf, tellOf, searchOf};
 
 // In bytes: 01's longest stream.
-const LONGEST: usize = 16_777_216;
+pub const LONGEST_STREAM: usize = 16_777_216;
 
 // In bits: one byte past the end of the longest stream, where a search can leave the reader.
-const FARTHEST: usize = 134_217_736;
+pub const FARTHEST_BIT: usize = 134_217_736;
 
 // A count of bits from the start of the stream.
 pub struct BitIndex(pub usize);
@@ -20,26 +20,25 @@ pub struct BytePos(pub usize);
 
 impl BitIndex {
     // The byte that holds this bit.
-    fn byte(self) -> BytePos
-        ensures { λ r. ⌜ (r ≡ byteOf self) × (r .0 ≡ self .0 / 8) ⌝ }
+    pub fn byte(self) -> BytePos
+        ensures { λ r. ⌜ r ≡ bytePosOf self ⌝ }
     {
         BytePos(self.0 / 8)
     }
 
     // The first byte that starts at this bit or after it.
-    fn byte_after(self) -> BytePos
-        requires { ⌜ self .0 ≤ 134217736 ⌝ }
-        ensures { λ r. ⌜ (r ≡ byteAfterOf self) × (r .0 ≡ (self .0 + 7) / 8) ⌝ }
+    pub fn byte_after(self) -> BytePos
+        ensures { λ r. ⌜ r ≡ byteAfterOf self ⌝ }
     {
-        BytePos((self.0 + 7) / 8)
+        BytePos(self.0 / 8 + (self.0 % 8 + 7) / 8)
     }
 }
 
 impl BytePos {
     // The byte's first bit.
-    fn bit(self) -> BitIndex
-        requires { ⌜ self .0 ≤ 134217736 ⌝ }
-        ensures { λ r. ⌜ (r ≡ bitOf self) × (r .0 ≡ self .0 * 8) ⌝ }
+    pub fn bit(self) -> BitIndex
+        requires { ⌜ self .0 < 2 ^ 61 ⌝ }
+        ensures { λ r. ⌜ r ≡ bitOf self ⌝ }
     {
         BitIndex(self.0 * 8)
     }
@@ -93,7 +92,7 @@ pub struct Field {
 
 // How many bits remain from bit `at`: none past the end.
 fn remaining(s: &[u8], at: usize) -> usize
-    requires { ⌜ length (now s) ≤ 16777216 ⌝ }
+    requires { ⌜ length (now s) ≤ longestStream ⌝ }
     ensures { λ r. ⌜ r ≡ 8 * length (now (s .entry)) - at ⌝ }
 {
     let total = s.len() * 8;
@@ -109,7 +108,7 @@ fn bit(byte: u8, place: usize) -> u32
 
 // The value of the `count` bits from bit `at`, bit by bit: only near the stream's end, where no 8 bytes are left.
 fn last_bits(s: &[u8], at: usize, count: usize) -> u32
-    requires { ⌜ (count ≤ 32) × (count ≤ 8 * length (now s) - at) × (at ≤ 134217736) ⌝ }
+    requires { ⌜ (count ≤ 32) × (count ≤ 8 * length (now s) - at) × (at ≤ farthestBit) ⌝ }
     ensures { λ r. ⌜ r ≡ bitsValue (now (s .entry)) at count ⌝ }
 {
     let mut value: u32 = 0;
@@ -146,7 +145,7 @@ fn word(s: &[u8], i: usize) -> u64
 
 // The value of the `count` bits from bit `at`: out of 8 bytes at once where they are there, which is the common case and the fast one.
 fn bits_at(s: &[u8], at: usize, count: usize) -> u32
-    requires { ⌜ (count ≤ 32) × (count ≤ 8 * length (now s) - at) × (at ≤ 134217736) ⌝ }
+    requires { ⌜ (count ≤ 32) × (count ≤ 8 * length (now s) - at) × (at ≤ farthestBit) ⌝ }
     ensures { λ r. ⌜ r ≡ bitsValue (now (s .entry)) at count ⌝ }
 {
     let i = at / 8;
@@ -219,10 +218,10 @@ impl Reader {
         ensures { λ r. ⌜ r ≡ hasOf (now (s .entry)) self count ⌝ }
     {
         let at = self.at.0;
-        if LONGEST < s.len() {
+        if LONGEST_STREAM < s.len() {
             return Holds::Refused(8);
         }
-        if FARTHEST < at {
+        if FARTHEST_BIT < at {
             return Holds::Refused(10);
         }
         if remaining(s, at) < count {
@@ -236,10 +235,10 @@ impl Reader {
         ensures { λ r. ⌜ r ≡ endedOf (now (s .entry)) self ⌝ }
     {
         let at = self.at.0;
-        if LONGEST < s.len() {
+        if LONGEST_STREAM < s.len() {
             return Holds::Refused(8);
         }
-        if FARTHEST < at {
+        if FARTHEST_BIT < at {
             return Holds::Refused(10);
         }
         if remaining(s, at) == 0 {
@@ -253,10 +252,10 @@ impl Reader {
         ensures { λ r. ⌜ r ≡ readOf (now (s .entry)) self count ⌝ }
     {
         let at = self.at.0;
-        if LONGEST < s.len() {
+        if LONGEST_STREAM < s.len() {
             return Read::Refused(8);
         }
-        if FARTHEST < at {
+        if FARTHEST_BIT < at {
             return Read::Refused(10);
         }
         if 32 < count {
@@ -292,10 +291,10 @@ impl Reader {
         ensures { λ r. ⌜ r ≡ alignOf (now (s .entry)) self ⌝ }
     {
         let at = self.at;
-        if LONGEST < s.len() {
+        if LONGEST_STREAM < s.len() {
             return Moved::Refused(8);
         }
-        if FARTHEST < at.0 {
+        if FARTHEST_BIT < at.0 {
             return Moved::Refused(10);
         }
         let to = at.byte_after().bit();
@@ -307,10 +306,10 @@ impl Reader {
         ensures { λ r. ⌜ r ≡ skipOf (now (s .entry)) self count ⌝ }
     {
         let at = self.at.0;
-        if LONGEST < s.len() {
+        if LONGEST_STREAM < s.len() {
             return Moved::Refused(8);
         }
-        if FARTHEST < at {
+        if FARTHEST_BIT < at {
             return Moved::Refused(10);
         }
         if remaining(s, at) < count {
@@ -326,10 +325,10 @@ impl Reader {
         ensures { λ r. ⌜ r ≡ tellOf (now (s .entry)) self ⌝ }
     {
         let at = self.at;
-        if LONGEST < s.len() {
+        if LONGEST_STREAM < s.len() {
             return Told::Refused(8);
         }
-        if FARTHEST < at.0 {
+        if FARTHEST_BIT < at.0 {
             return Told::Refused(10);
         }
         let to = at.byte();
@@ -341,10 +340,10 @@ impl Reader {
         ensures { λ r. ⌜ r ≡ skipBytesOf (now (s .entry)) self v ⌝ }
     {
         let at = self.at;
-        if LONGEST < s.len() {
+        if LONGEST_STREAM < s.len() {
             return Skipped::Refused(8);
         }
-        if FARTHEST < at.0 {
+        if FARTHEST_BIT < at.0 {
             return Skipped::Refused(10);
         }
         let from = at.byte_after();
@@ -358,10 +357,10 @@ impl Reader {
         ensures { λ r. ⌜ r ≡ searchOf (now (s .entry)) self ⌝ }
     {
         let at = self.at;
-        if LONGEST < s.len() {
+        if LONGEST_STREAM < s.len() {
             return Sync::Refused(8);
         }
-        if FARTHEST < at.0 {
+        if FARTHEST_BIT < at.0 {
             return Sync::Refused(10);
         }
         let from = at.byte();

@@ -10,6 +10,7 @@ use lib.Ieee.{Float, fin, isNan, toBits, ofInt, div}
 use lib.ListN.{length}
 use borrow.Author.Tests.{le-ltb}
 use Rattle.ground.specs.First.{firstFrom}
+use Rattle.synthesis.specs.Slots.{memoryLength, outputLength}
 use Rattle.buffer.specs.Bits.{bitAt, bitsValue}
 use Rattle.buffer.specs.Calls.{readerAt, readOf, fieldOf, hasOf, skipBytesOf}
 use Rattle.grammar.specs.Reads.{_>>=_, run, called}
@@ -17,37 +18,31 @@ use Rattle.grammar.specs.Widths.{Agree}
 use Rattle.header.specs.Header.{headerOf, startOf, syncOf, fieldsOf, identOf, ratesOf, restOf, modeOf, boundOf, checkOf, sizeOf}
 use Rattle.codes.specs.Rows.{zeros, row-188}
 use Rattle.frame.specs.Frame.{codesIn, granulesAt}
-use Rattle.clock.specs.Clock.{sameBits, onTime, startOf as timeOf}
-use Rattle.audio.specs.State.{fresh, numbersOk, inRange}
-use Rattle.audio.specs.Before.{asked, attemptOf, headedOf, enoughOf, readyOf}
-use Rattle.audio.specs.Calls.{afterOf, framedOf, decodeOf, openOf, openMemory}
-use Rattle.audio.specs.declared.Audio.{Audio}
-use Rattle.audio.specs.declared.Asked.{Asked}
-use Rattle.audio.specs.declared.Heading.the-variants.{Known}
-use Rattle.claims.specs.Pasts.{Past, opened}
-use Rattle.claims.specs.Accepted.{Call, newOutput, sample, before, frameState, firstBit, bitsCalled, Accepts}
-use Rattle.claims.specs.Ring.{memory-kept-long}
+use Rattle.clock.specs.Clock.{sameBits, onTime, startTimeOf}
+use Rattle.header.specs.Readings.{plain}
+use Rattle.state.specs.State.{fresh, numbersOk, inRange, pends}
+use Rattle.verdict.specs.Verdict.{asked, attemptOf, headedOf, enoughOf, readyOf, atOnceOf}
+use Rattle.audio.specs.Calls.{afterOf, framedOf, decodeOf, openOf, openMemory, noRoomOf}
+use Rattle.state.specs.declared.Audio.{Audio}
+use Rattle.verdict.specs.declared.Asked.{Asked}
+use Rattle.verdict.specs.declared.Heading.the-variants.{Known}
+use Rattle.past.specs.Pasts.{Past, opened}
+use Rattle.past.specs.Calls.{Call, newOutput, sample, before, frameState, firstBit, bitsCalled, Accepts}
+use Rattle.past.specs.Ring.{memory-kept-long}
 use Rattle.claims.specs.Widths.{bits-are-the-widths}
 use Rattle.claims.specs.RingOut.{Agreeing, rings-out}
 
 -- the state after the header
 abbrev pub headed : Audio
-headed =
-    record {
-      reader = readerAt 32;
-      format = record { samplerate = 0; bitrate = 9; mode = 0; bound = 32 };
-      frames = 0;
-      pending = 622;
-      ring = 0;
-      time = fin false 0 (pos 0);
-    }
+headed = pends (readerAt 32) (record { reading = plain; samplerate = 0; bitrate = 9; mode = 0; bound = 32 }) 622 (fresh plain)
 
-found : attemptOf zeros fresh ≡ asked Known headed
-unfolding attemptOf fresh headerOf startOf syncOf hasOf skipBytesOf fieldOf readOf bitsValue bitAt firstFrom run _>>=_ fieldsOf identOf ratesOf restOf modeOf boundOf checkOf sizeOf
+found : attemptOf zeros (fresh plain) ≡ asked Known headed
+unfolding attemptOf fresh headerOf startOf syncOf hasOf skipBytesOf fieldOf readOf bitsValue bitAt firstFrom run _>>=_ fieldsOf identOf ratesOf restOf
+    modeOf boundOf checkOf sizeOf
 found = refl
 
 sound : inRange headed ≡ true
-unfolding inRange numbersOk onTime timeOf sameBits isNan toBits ofInt div
+unfolding fresh inRange numbersOk onTime startTimeOf sameBits isNan toBits ofInt div
 sound = refl
 
 headed-calls : called (codesIn (headed .format)) zeros (headed .reader) ≡ 188
@@ -56,22 +51,22 @@ headed-calls = row-188
 
 -- a decoder opened on it with any memory, lent any output
 abbrev pub opening : List Float → List Float → Call
-opening m o = record { stream = zeros; memory = openMemory zeros m; output = o; state = openOf zeros m .state }
+opening m o = record { stream = zeros; memory = openMemory zeros m; output = o; state = openOf plain zeros m .state }
 
-module _ (m o : List Float) (long : 2048 ≤ length m) (room : 2304 ≤ length o) where
+module _ (m o : List Float) (long : memoryLength ≤ length m) (room : outputLength ≤ length o) where
   pub opened-on-zeros : Past (opening m o .state) (opening m o .memory)
-  opened-on-zeros = opened zeros m (lit≤ tt) long
+  opened-on-zeros = opened plain zeros m (lit≤ tt) long
 
   at-header : opening m o .state ≡ headed
-  unfolding openOf
+  unfolding openOf noRoomOf
   at-header = simp (le-ltb _ _ long) (ap (λ (x : Asked). x .state) found)
 
   before-zeros : before (opening m o) ≡ asked Known headed
-  unfolding readyOf headedOf enoughOf hasOf
+  unfolding readyOf atOnceOf headedOf enoughOf hasOf
   before-zeros = simp (at-header, le-ltb _ _ (memory-kept-long opened-on-zeros), le-ltb _ _ room, sound)
 
   pub zeros-accepted : Accepts (opening m o)
-  unfolding decodeOf framedOf afterOf
+  unfolding fresh decodeOf framedOf afterOf
   zeros-accepted =
       record { time = fin false 0 (pos 0); bits = granulesAt zeros (readerAt 32) (headed .format) .next .at .0 - 32; answer = rw before-zeros }
 
@@ -90,7 +85,8 @@ module _ (m o : List Float) (long : 2048 ≤ length m) (room : 2304 ≤ length o
   pub zeros-use-188-bits : zeros-accepted .bits ≡ 188
   zeros-use-188-bits = bits-are-the-widths zeros-accepted all-there ∙ calls-188
 
-pub zeros-agree : (m n o u : List Float) → 2048 ≤ length m → 2048 ≤ length n → 2304 ≤ length o → 2304 ≤ length u → Agreeing (opening m o) (opening n u)
+pub zeros-agree : (m n o u : List Float) → memoryLength ≤ length m → memoryLength ≤ length n → outputLength ≤ length o → outputLength ≤ length u
+    → Agreeing (opening m o) (opening n u)
 unfolding Agree
 zeros-agree m n o u lm ln lo lu =
     let f = frame-state m o lm lo in
@@ -99,6 +95,7 @@ zeros-agree m n o u lm ln lo lu =
     record {
       accepts = zeros-accepted m o lm lo;
       accepts′ = zeros-accepted n u ln lu;
+      reading = ap (λ (a : Audio). a .format .reading) e;
       samplerate = ap (λ (a : Audio). a .format .samplerate) e;
       bitrate = ap (λ (a : Audio). a .format .bitrate) e;
       mode = ap (λ (a : Audio). a .format .mode) e;
@@ -111,7 +108,7 @@ zeros-agree m n o u lm ln lo lu =
     }
 
 -- so demand 3 says of them what it says
-pub zeros-ring-out : (m n o u : List Float) → 2048 ≤ length m → 2048 ≤ length n → 2304 ≤ length o → 2304 ≤ length u
+pub zeros-ring-out : (m n o u : List Float) → memoryLength ≤ length m → memoryLength ≤ length n → outputLength ≤ length o → outputLength ≤ length u
     → (channel k : ℕ) → channel < 2 → 481 ≤ k → k ≤ 1152 → sample (newOutput (opening m o)) channel k ≡ sample (newOutput (opening n u)) channel k
 zeros-ring-out m n o u lm ln lo lu =
     rings-out (opened-on-zeros m o lm lo) (opened-on-zeros n u ln lu)

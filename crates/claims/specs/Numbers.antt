@@ -2,16 +2,15 @@
 -- 8, 9, 10, then 1 to 6 as the header is read, then 7. Each table has its rows as constructors. Assumes nothing.
 use Prim.Native.Nat.{ℕ, _*_, _≤_, _<_}
 use mathlib.Core.Path.{_≡_, refl, sym, ap, subst, _∙_}
-use mathlib.Core.Bool.{Bool, true, false}
+use mathlib.Core.Bool.{true, false}
 use mathlib.Core.List.{List}
 use mathlib.Core.Logic.{_⊎_, inl, inr}
 use native.Mathlib.Omega.{arith}
-use lib.Dec.{eqb, ltb}
 use lib.Ieee.{Float}
 use lib.ListN.{length}
-use borrow.Author.Tests.{lt-ltb, le-ltb, eq-eqb, ne-eqb, eqb-true, eqb-false, ltb-true, ltb-false}
+use borrow.Author.Tests.{lt-ltb, le-ltb, eq-eqb, ne-eqb}
 use Rattle.ground.specs.Tests.{by-test}
-use Rattle.buffer.specs.Calls.{left, hasOf}
+use Rattle.buffer.specs.Calls.{left}
 use Rattle.buffer.specs.declared.Reader.{Reader}
 use Rattle.tables.specs.Standard.{rateOf}
 use Rattle.header.specs.Header.{headerOf, headerNumber}
@@ -19,196 +18,154 @@ use Rattle.header.specs.declared.Format.{Format}
 use Rattle.header.specs.declared.Header.{Header}
 use Rattle.header.specs.declared.Header.the-variants.{Accepted, Refused as HeaderRefused}
 use Rattle.header.specs.declared.Attempt.{Attempt}
-use Rattle.audio.specs.State.{fresh, inRange}
-use Rattle.audio.specs.Before.{asked, seeking, tried, attemptOf, headedOf, enoughOf, pended, readyOf}
-use Rattle.audio.specs.Calls.{answering, remembering, sounding, afterOf, framedOf, framedMemory, framedOutput, decodeOf, decodeMemory, decodeOutput, openOf, hasHeaderOf, samplerateOf}
+use Rattle.state.specs.State.{fresh, inRange, standsAt, pends}
+use Rattle.verdict.specs.Verdict.{asked, seeking, tried, attemptOf}
+use Rattle.audio.specs.Calls.{answering, remembering, sounding, afterOf, framedOf, framedMemory, framedOutput, decodeOf, decodeMemory, decodeOutput, openOf, hasHeaderOf, samplerateOf, noRoomOf}
 use Rattle.audio.specs.Numbers.{headingNumber, rateNumber, answerNumber}
-use Rattle.audio.specs.Facts.{ranged, Ready, goes}
-use Rattle.audio.specs.declared.Audio.{Audio}
-use Rattle.audio.specs.declared.Asked.{Asked}
-use Rattle.audio.specs.declared.Heading.the-variants.{Known, Refused}
+use Rattle.state.specs.StateLaws.{ranged, in-range}
+use Rattle.audio.specs.CallsLaws.{by-asking, by-opening}
+use Rattle.verdict.specs.VerdictLaws.{Room, Called, AtOnce, Heads, Verdict, at-once, no-header, cut-off, whole, verdict-holds, verdict-only, heads-kept}
+use Rattle.header.specs.declared.Reading.{Reading}
+use Rattle.state.specs.declared.Audio.{Audio}
+use Rattle.verdict.specs.declared.Asked.{Asked}
+use Rattle.verdict.specs.declared.Heading.the-variants.{Known, Refused}
 use Rattle.audio.specs.declared.Rate.{Rate}
 use Rattle.audio.specs.declared.Rate.the-variants.{Hertz, Refused as RateRefused}
 use Rattle.audio.specs.declared.Answer.the-variants.{Refused as AnswerRefused}
 use Rattle.audio.specs.declared.Decoded.{Decoded}
-use Rattle.claims.specs.Tables.{Table, exactly, never}
-use Rattle.claims.specs.Attempts.{Attempts, refusal, attempt-table, attempt-number, first-number}
-use Rattle.claims.specs.Pasts.{Past}
-use Rattle.claims.specs.Sound.{fresh-in-range, heading-stays-in-range, sound-state-in-range}
+use Rattle.ground.specs.Rows.{TableOf, exactly, never}
+use Rattle.synthesis.specs.Slots.{memoryLength, outputLength}
+use Rattle.buffer.specs.Bits.{longestStream}
+use Rattle.header.specs.Attempts.{Attempts, refusal, attempt-table, attempt-number, first-number}
+use Rattle.past.specs.Pasts.{Past}
+use Rattle.past.specs.Sound.{fresh-in-range, sound-state-in-range}
 
 -- ---- decode
 
 -- neither 8 nor 9
-pub record Lent (s : List ℕ) (memory output : List Float) : Type 0 where
-  pub short : length s ≤ 16777216
-  pub memory-long : 2048 ≤ length memory
-  pub output-long : 2304 ≤ length output
+abbrev pub Lent : List ℕ → List Float → List Float → Type 0
+Lent s memory output = Room s (length memory) (length output)
 
 -- nor 10
-pub record Called (s : List ℕ) (memory output : List Float) (a : Audio) : Type 0 where
-  pub lent : Lent s memory output
-  pub within : inRange a ≡ true
-
--- the state at another place, and nothing else changed
-abbrev pub movedTo : Reader → Audio → Audio
-movedTo r a = record { reader = r; format = a .format; frames = a .frames; pending = a .pending; ring = a .ring; time = a .time }
+abbrev pub InOrder : List ℕ → List Float → List Float → Audio → Type 0
+InOrder s memory output a = Called s (length memory) (length output) a
 
 -- the state with a header pending: the one that waits, or the one that an attempt accepts
-pub data Heads (s : List ℕ) (a : Audio) : Audio → Type 0 where
-  waits : (a .pending ≡ 0 → ⊥) → Heads s a a
+pub data Pending (s : List ℕ) (a : Audio) : Audio → Type 0 where
+  waits : (a .pending ≡ 0 → ⊥) → Pending s a a
   accepts : {f : Format} {size : ℕ} {r : Reader} → a .pending ≡ 0
-      → Attempts s (a .reader) (a .format) 0 (record { header = Accepted f size; next = r })
-      → Heads s a (record { reader = r; format = f; frames = a .frames; pending = size; ring = a .ring; time = a .time })
+      → Attempts s (a .reader) (a .format) 0 (record { header = Accepted f size; next = r }) → Pending s a (pends r f size a)
 
 abbrev pub refused : ℕ → Audio → Decoded
 refused n a = record { answer = AnswerRefused n; state = a }
 
 pub data Decodes (s : List ℕ) (memory output : List Float) (a : Audio) : ℕ → Decoded → Type 0 where
   -- "stream above 16,777,216 bytes": "same state"
-  eight : 16777216 < length s → Decodes s memory output a 8 (refused 8 a)
+  eight : longestStream < length s → Decodes s memory output a 8 (refused 8 a)
   -- "synthesis memory under 2,048 or output under 2,304": "same state"
-  nine : length s ≤ 16777216 → (length memory < 2048) ⊎ (length output < 2304) → Decodes s memory output a 9 (refused 9 a)
+  nine : length s ≤ longestStream → (length memory < memoryLength) ⊎ (length output < outputLength) → Decodes s memory output a 9 (refused 9 a)
   -- "state out of range": "same state"
   ten : Lent s memory output → inRange a ≡ false → Decodes s memory output a 10 (refused 10 a)
   -- 1 to 6: no header pending, and the attempt gives it: "position moved", "old format kept"; with 1 the position is the same
-  sought : {n : ℕ} {r : Reader} → Called s memory output a → a .pending ≡ 0 → Attempts s (a .reader) (a .format) n (refusal n r)
-      → Decodes s memory output a n (refused n (movedTo r a))
+  sought : {n : ℕ} {r : Reader} → InOrder s memory output a → a .pending ≡ 0 → Attempts s (a .reader) (a .format) n (refusal n r)
+      → Decodes s memory output a n (refused n (standsAt r a))
   -- "header pending, fewer bits remain than 8 times its data size": "state as after that header, still pending"
-  seven : {b : Audio} → Called s memory output a → Heads s a b → left s (b .reader) < 8 * b .pending
+  seven : {b : Audio} → InOrder s memory output a → Pending s a b → left s (b .reader) < 8 * b .pending
       → Decodes s memory output a 7 (refused 7 b)
   -- "frame decoded"
-  zero : {b : Audio} → Called s memory output a → Heads s a b → 8 * b .pending ≤ left s (b .reader)
+  zero : {b : Audio} → InOrder s memory output a → Pending s a b → 8 * b .pending ≤ left s (b .reader)
       → Decodes s memory output a 0 (framedOf s b)
 
--- a header's data, in a state in range
-module _ (s : List ℕ) (b : Audio) (short : length s ≤ 16777216) (r : inRange b ≡ true) where
-  near : b .reader .at .0 ≤ 134217736
-  near = ranged b r .near
+no-both : {n : ℕ} → Known ≡ Refused n → ⊥
+no-both e = let z : _≡_ {A = ℕ} 0 1 = cc in omega arith
 
-  short-of-data : left s (b .reader) < 8 * b .pending → enoughOf s b ≡ asked (Refused 7) b
-  unfolding enoughOf hasOf
-  short-of-data l = simp (le-ltb _ _ short, le-ltb _ _ near, lt-ltb _ _ l)
+-- an attempt by its table, in a state in range
+module _ (s : List ℕ) (a : Audio) (short : length s ≤ longestStream) (within : inRange a ≡ true) where
+  rows : TableOf (λ (x : Attempt). headerNumber (x .header)) (headerOf s (a .reader) (a .format)) (Attempts s (a .reader) (a .format))
+  rows = attempt-table s (a .reader) short (ranged a within .near) (a .format)
 
-  has-data : 8 * b .pending ≤ left s (b .reader) → enoughOf s b ≡ asked Known b
-  unfolding enoughOf hasOf
-  has-data l = simp (le-ltb _ _ short, le-ltb _ _ near, le-ltb _ _ l)
-
--- the header of a state in range
-module _ (s : List ℕ) (a : Audio) (short : length s ≤ 16777216) (within : inRange a ≡ true) where
   attempted : {n : ℕ} {x : Attempt} → Attempts s (a .reader) (a .format) n x → attemptOf s a ≡ tried a x
   unfolding attemptOf
-  attempted t = ap (tried a) (sym (attempt-table s (a .reader) short (ranged a within .near) (a .format) .only t .0))
+  attempted t = ap (tried a) (sym (rows .only t .0))
 
-  headed : {b : Audio} → Heads s a b → headedOf s a ≡ asked Known b
-  unfolding headedOf
-  headed (waits n) = simp (ne-eqb _ _ n)
-  headed (accepts e t) = simp (eq-eqb _ _ e) (attempted t)
+  -- and the row that it stands in, by its answer
+  module _ {b : Audio} (z : a .pending ≡ 0) where
+    accepted-row : attemptOf s a ≡ asked Known b → Pending s a b
+    unfolding attemptOf
+    accepted-row e = by (headerOf s (a .reader) (a .format) .header) (headerOf s (a .reader) (a .format) .next) (rows .holds) e
+      where
+        by : (h : Header) (r : Reader) → Attempts s (a .reader) (a .format) (headerNumber h) (record { header = h; next = r })
+            → seeking a r h ≡ asked Known b → Pending s a b
+        by (Accepted f size) r row e = subst (Pending s a) (ap (λ (x : Asked). x .state) e) (accepts z row)
+        by (HeaderRefused n) r row e = absurd (no-both (sym (ap (λ (x : Asked). x .answer) e)))
 
-  turned-down : {n : ℕ} {q : Reader} → a .pending ≡ 0 → Attempts s (a .reader) (a .format) n (refusal n q)
-      → headedOf s a ≡ asked (Refused n) (movedTo q a)
-  unfolding headedOf
-  turned-down e t = simp (eq-eqb _ _ e) (attempted t ∙ rw e)
+    refused-row : {n : ℕ} (P : Asked → Type 0)
+        → ((n : ℕ) (r : Reader) → Attempts s (a .reader) (a .format) n (refusal n r) → P (asked (Refused n) (standsAt r a)))
+        → attemptOf s a ≡ asked (Refused n) b → P (asked (Refused n) b)
+    unfolding attemptOf
+    refused-row {n} P row e = by (headerOf s (a .reader) (a .format) .header) (headerOf s (a .reader) (a .format) .next) (rows .holds) e
+      where
+        by : (h : Header) (r : Reader) → Attempts s (a .reader) (a .format) (headerNumber h) (record { header = h; next = r })
+            → seeking a r h ≡ asked (Refused n) b → P (asked (Refused n) b)
+        by (Accepted f size) r t e = absurd (no-both (ap (λ (x : Asked). x .answer) e))
+        by (HeaderRefused k) r t e = subst P e (row k r t)
 
 module _ (s : List ℕ) (memory output : List Float) (a : Audio) where
-  called : Called s memory output a → readyOf s (length memory) (length output) a ≡ pended s (headedOf s a)
-  unfolding readyOf
-  called c =
-      simp (le-ltb _ _ (c .lent .short), le-ltb _ _ (c .lent .memory-long), le-ltb _ _ (c .lent .output-long), c .within)
+  abbrev Before : Asked → Type 0
+  Before x = Verdict s (length memory) (length output) a x
 
-  decode-by : (x : Asked) → readyOf s (length memory) (length output) a ≡ x → answering s (x .answer) (x .state) ≡ decodeOf s memory output a
+  headed : {b : Audio} → InOrder s memory output a → Pending s a b → Heads s a b
+  headed c (waits n) = Heads.waits n
+  headed c (accepts z t) = Heads.accepts z (attempted s a (c .room .short) (c .within) t)
+
+  pending : {b : Audio} → InOrder s memory output a → Heads s a b → Pending s a b
+  pending c (Heads.waits n) = waits n
+  pending c (Heads.accepts z e) = accepted-row s a (c .room .short) (c .within) z e
+
+  decode-by : {x : Asked} → Before x → answering s (x .answer) (x .state) ≡ decodeOf s memory output a
   unfolding decodeOf
-  decode-by x e = ap (λ (y : Asked). answering s (y .answer) (y .state)) (sym e)
-
-  -- a header found leaves a state in range
-  pub heads-within : {b : Audio} → Called s memory output a → Heads s a b → inRange b ≡ true
-  heads-within c h =
-      subst (λ (x : Asked). inRange (x .state) ≡ true) (headed s a (c .lent .short) (c .within) h)
-      (heading-stays-in-range s a (c .lent .short) (c .within))
-
-  pend : {b : Audio} → Called s memory output a → Heads s a b → readyOf s (length memory) (length output) a ≡ enoughOf s b
-  pend c h = called c ∙ ap (pended s) (headed s a (c .lent .short) (c .within) h)
+  decode-by v = ap (λ (y : Asked). answering s (y .answer) (y .state)) (verdict-only s (length memory) (length output) a v)
 
   decode-only : {n : ℕ} {x : Decoded} → Decodes s memory output a n x → (x ≡ decodeOf s memory output a) × (answerNumber (x .answer) ≡ n)
-  unfolding readyOf framedOf afterOf
-  decode-only (eight l) = (decode-by (asked (Refused 8) a) (simp (lt-ltb _ _ l)), refl)
-  decode-only (nine l (inl m)) = (decode-by (asked (Refused 9) a) (simp (le-ltb _ _ l, lt-ltb _ _ m)), refl)
-  decode-only (nine l (inr o)) = (
-    decode-by (asked (Refused 9) a)
-        (simp (le-ltb _ _ l, lt-ltb _ _ o) (by-test (λ (x : Asked). x ≡ asked (Refused 9) a) (ltb (length memory) 2048) _ _ (λ _. refl) (λ _. refl))),
-    refl,
-  )
-  decode-only (ten l r) =
-      (decode-by (asked (Refused 10) a) (simp (le-ltb _ _ (l .short), le-ltb _ _ (l .memory-long), le-ltb _ _ (l .output-long), r)), refl)
-  decode-only (sought {n} {r} c e t) =
-      (decode-by (asked (Refused n) (movedTo r a)) (called c ∙ ap (pended s) (turned-down s a (c .lent .short) (c .within) e t)), refl)
-  decode-only (seven {b} c h l) = (decode-by (asked (Refused 7) b) (pend c h ∙ short-of-data s b (c .lent .short) (heads-within c h) l), refl)
-  decode-only (zero {b} c h l) = (decode-by (asked Known b) (pend c h ∙ has-data s b (c .lent .short) (heads-within c h) l), refl)
-
-  -- ---- the call's outcome stands in a row
+  unfolding framedOf afterOf
+  decode-only (eight l) = (decode-by (at-once (AtOnce.eight l)), refl)
+  decode-only (nine l m) = (decode-by (at-once (AtOnce.nine l m)), refl)
+  decode-only (ten l r) = (decode-by (at-once (AtOnce.ten l r)), refl)
+  decode-only (sought c z t) = (decode-by (no-header c z (attempted s a (c .room .short) (c .within) t)), refl)
+  decode-only (seven c h l) = (decode-by (cut-off c (headed c h) l), refl)
+  decode-only (zero c h l) = (decode-by (whole c (headed c h) l), refl)
 
   Stands : Asked → Type 0
   Stands x = Decodes s memory output a (answerNumber (answering s (x .answer) (x .state) .answer)) (answering s (x .answer) (x .state))
 
-  data-stand : {b : Audio} → Called s memory output a → Heads s a b → Stands (enoughOf s b)
+  decode-stands : {x : Asked} → Before x → Stands x
   unfolding Stands framedOf afterOf
-  data-stand {b} c h = go (ltb (left s (b .reader)) (8 * b .pending)) refl
-    where
-      go : (t : Bool) → ltb (left s (b .reader)) (8 * b .pending) ≡ t → Stands (enoughOf s b)
-      go true e =
-          let l = ltb-true _ _ e in rw (short-of-data s b (c .lent .short) (heads-within c h) l) (seven c h l)
-      go false e =
-          let l = ltb-false _ _ e in rw (has-data s b (c .lent .short) (heads-within c h) l) (zero c h l)
+  decode-stands (at-once (AtOnce.eight l)) = eight l
+  decode-stands (at-once (AtOnce.nine l m)) = nine l m
+  decode-stands (at-once (AtOnce.ten l r)) = ten l r
+  decode-stands (no-header c z e) = refused-row s a (c .room .short) (c .within) z Stands (λ n r t. sought c z t) e
+  decode-stands (cut-off c h l) = seven c (pending c h) l
+  decode-stands (whole c h l) = zero c (pending c h) l
 
-  attempt-stands : Called s memory output a → a .pending ≡ 0 → Stands (pended s (attemptOf s a))
-  unfolding Stands attemptOf
-  attempt-stands c e =
-      go (t .header) (t .next) (attempt-table s (a .reader) (c .lent .short) (ranged a (c .within) .near) (a .format) .holds)
-    where
-      t : Attempt
-      t = headerOf s (a .reader) (a .format)
-
-      go : (h : Header) (r : Reader) → Attempts s (a .reader) (a .format) (headerNumber h) (record { header = h; next = r })
-          → Stands (pended s (seeking a r h))
-      go (Accepted f n) r row = data-stand c (accepts e row)
-      go (HeaderRefused n) r row =
-          subst
-          (λ (p : ℕ). Decodes s memory output a n
-          (refused n (record { reader = r; format = a .format; frames = a .frames; pending = p; ring = a .ring; time = a .time })))
-          e (sought c e row)
-
-  decode-stands : Stands (readyOf s (length memory) (length output) a)
-  unfolding Stands readyOf headedOf
-  decode-stands =
-      by-test Stands (ltb 16777216 (length s)) _ _ (λ l. eight (ltb-true _ _ l))
-      (λ l. by-test Stands (ltb (length memory) 2048) _ _ (λ m. nine (ltb-false _ _ l) (inl (ltb-true _ _ m)))
-      (λ m. by-test Stands (ltb (length output) 2304) _ _ (λ o. nine (ltb-false _ _ l) (inr (ltb-true _ _ o)))
-      (λ o. let lent : Lent s memory output = record { short = ltb-false _ _ l; memory-long = ltb-false _ _ m; output-long = ltb-false _ _ o } in
-      by-test Stands (inRange a) _ _
-      (λ r. let c : Called s memory output a = record { lent = lent; within = r } in
-      by-test (λ (x : Asked). Stands (pended s x)) (eqb (a .pending) 0) _ _ (λ e. attempt-stands c (eqb-true _ _ e)) (λ e. data-stand c (waits (eqb-false _ _ e))))
-      (λ r. ten lent r))))
-
-  pub decode-table : Table (λ (x : Decoded). answerNumber (x .answer)) (decodeOf s memory output a) (Decodes s memory output a)
+  pub decode-table : TableOf (λ (x : Decoded). answerNumber (x .answer)) (decodeOf s memory output a) (Decodes s memory output a)
   unfolding Stands decodeOf
-  decode-table = record { holds = decode-stands; only = decode-only }
+  decode-table = record { holds = decode-stands (verdict-holds s (length memory) (length output) a); only = decode-only }
 
-  -- what a frame that is decoded had
-  pub decoded-frame-ready : {b : Audio} → Called s memory output a → Heads s a b → 8 * b .pending ≤ left s (b .reader) → Ready s b
-  decoded-frame-ready {b} c h l =
-      goes s (length memory) (length output) a (asked Known b)
-      (sym (pend c h ∙ has-data s b (c .lent .short) (heads-within c h) l)) refl .ready
+  -- a header found leaves a state in range
+  pub pending-within : {b : Audio} → InOrder s memory output a → Pending s a b → inRange b ≡ true
+  pending-within {b} c h = in-range b (heads-kept c (headed c h) .ranged)
 
   -- a decoded frame's memory and output are that frame's; every other row leaves them (Untouched)
-  pub decoded-frame-writes : {b : Audio} → Called s memory output a → Heads s a b → 8 * b .pending ≤ left s (b .reader)
+  pub decoded-frame-writes : {b : Audio} → InOrder s memory output a → Pending s a b → 8 * b .pending ≤ left s (b .reader)
       → (decodeMemory s memory output a ≡ framedMemory s b memory) × (decodeOutput s memory output a ≡ framedOutput s b memory output)
   unfolding decodeMemory decodeOutput
   decoded-frame-writes {b} c h l =
-      let e = pend c h ∙ has-data s b (c .lent .short) (heads-within c h) l in
+      let e = sym (verdict-only s (length memory) (length output) a (whole c (headed c h) l)) in
       (ap (λ (x : Asked). remembering s memory (x .answer) (x .state)) e, ap (λ (x : Asked). sounding s memory output (x .answer) (x .state)) e)
 
 -- ---- an attempt's answer, for the calls that do no more
 
-module _ (s : List ℕ) (a : Audio) (short : length s ≤ 16777216) (within : inRange a ≡ true) where
+module _ (s : List ℕ) (a : Audio) (short : length s ≤ longestStream) (within : inRange a ≡ true) where
   tried-number : (h : Header) (r : Reader) → headingNumber (seeking a r h .answer) ≡ headerNumber h
   tried-number (Accepted f n) r = refl
   tried-number (HeaderRefused n) r = refl
@@ -219,24 +176,23 @@ module _ (s : List ℕ) (a : Audio) (short : length s ≤ 16777216) (within : in
   tried-stands Row f =
       let t = headerOf s (a .reader) (a .format) in
       subst (λ n. Row n (tried a t)) (sym (tried-number (t .header) (t .next)))
-      (f _ t (attempt-table s (a .reader) short (ranged a within .near) (a .format) .holds))
+      (f _ t (rows s a short within .holds))
 
   tried-only : {n : ℕ} {x : Attempt} → Attempts s (a .reader) (a .format) n x
       → (tried a x ≡ attemptOf s a) × (headingNumber (tried a x .answer) ≡ n)
   tried-only {x = x} t =
-      let o = attempt-table s (a .reader) short (ranged a within .near) (a .format) .only t in
-      (sym (attempted s a short within t), tried-number (x .header) (x .next) ∙ o .1)
+      (sym (attempted s a short within t), tried-number (x .header) (x .next) ∙ rows s a short within .only t .1)
 
 -- ---- has_header: "8, 10, then 0 if a header is known, else 1 to 5 or 0"
 
 pub data Asks (s : List ℕ) (a : Audio) : ℕ → Asked → Type 0 where
-  eight : 16777216 < length s → Asks s a 8 (asked (Refused 8) a)
-  ten : length s ≤ 16777216 → inRange a ≡ false → Asks s a 10 (asked (Refused 10) a)
-  known : length s ≤ 16777216 → inRange a ≡ true → (a .format .samplerate ≡ 3 → ⊥) → Asks s a 0 (asked Known a)
-  sought : {n : ℕ} {x : Attempt} → length s ≤ 16777216 → inRange a ≡ true → a .format .samplerate ≡ 3
+  eight : longestStream < length s → Asks s a 8 (asked (Refused 8) a)
+  ten : length s ≤ longestStream → inRange a ≡ false → Asks s a 10 (asked (Refused 10) a)
+  known : length s ≤ longestStream → inRange a ≡ true → (a .format .samplerate ≡ 3 → ⊥) → Asks s a 0 (asked Known a)
+  sought : {n : ℕ} {x : Attempt} → length s ≤ longestStream → inRange a ≡ true → a .format .samplerate ≡ 3
       → Attempts s (a .reader) (a .format) n x → Asks s a n (tried a x)
 
-pub has-header-table : (s : List ℕ) (a : Audio) → Table (λ (x : Asked). headingNumber (x .answer)) (hasHeaderOf s a) (Asks s a)
+pub has-header-table : (s : List ℕ) (a : Audio) → TableOf (λ (x : Asked). headingNumber (x .answer)) (hasHeaderOf s a) (Asks s a)
 unfolding hasHeaderOf
 has-header-table s a = record { holds = stands; only = only }
   where
@@ -245,12 +201,7 @@ has-header-table s a = record { holds = stands; only = only }
 
     stands : Stands (hasHeaderOf s a)
     stands =
-        by-test Stands (ltb 16777216 (length s)) _ _ (λ l. eight (ltb-true _ _ l))
-        (λ l. by-test Stands (inRange a) _ _
-        (λ r. by-test Stands (eqb (a .format .samplerate) 3) _ _
-        (λ e. tried-stands s a (ltb-false _ _ l) r (Asks s a) (λ _ _ t. sought (ltb-false _ _ l) r (eqb-true _ _ e) t))
-        (λ e. known (ltb-false _ _ l) r (eqb-false _ _ e)))
-        (λ r. ten (ltb-false _ _ l) r))
+        by-asking s a Stands eight ten known (λ l r e. tried-stands s a l r (Asks s a) (λ _ _ t. sought l r e t))
 
     only : {n : ℕ} {x : Asked} → Asks s a n x → (x ≡ hasHeaderOf s a) × (headingNumber (x .answer) ≡ n)
     only (eight l) = (simp (lt-ltb _ _ l), refl)
@@ -269,38 +220,37 @@ has-header-gives s a = has-header-row (has-header-table s a .holds)
 
 -- ---- new: "it can give 0 to 5, 8 or 9 (memory only)"
 
-pub data Opens (s : List ℕ) (memory : List Float) : ℕ → Asked → Type 0 where
-  eight : 16777216 < length s → Opens s memory 8 (asked (Refused 8) fresh)
-  nine : length s ≤ 16777216 → length memory < 2048 → Opens s memory 9 (asked (Refused 9) fresh)
-  sought : {n : ℕ} {x : Attempt} → length s ≤ 16777216 → 2048 ≤ length memory → Attempts s (fresh .reader) (fresh .format) n x
-      → Opens s memory n (tried fresh x)
+pub data Opens (c : Reading) (s : List ℕ) (memory : List Float) : ℕ → Asked → Type 0 where
+  eight : longestStream < length s → Opens c s memory 8 (asked (Refused 8) (fresh c))
+  nine : length s ≤ longestStream → length memory < memoryLength → Opens c s memory 9 (asked (Refused 9) (fresh c))
+  sought : {n : ℕ} {x : Attempt} → length s ≤ longestStream → memoryLength ≤ length memory → Attempts s (fresh c .reader) (fresh c .format) n x
+      → Opens c s memory n (tried (fresh c) x)
 
-pub open-table : (s : List ℕ) (memory : List Float) → Table (λ (x : Asked). headingNumber (x .answer)) (openOf s memory) (Opens s memory)
-unfolding openOf
-open-table s memory = record { holds = stands; only = only }
+pub open-table : (c : Reading) (s : List ℕ) (memory : List Float) → TableOf (λ (x : Asked). headingNumber (x .answer)) (openOf c s memory) (Opens c s memory)
+unfolding openOf noRoomOf
+open-table c s memory = record { holds = stands; only = only }
   where
     Stands : Asked → Type 0
-    Stands x = Opens s memory (headingNumber (x .answer)) x
+    Stands x = Opens c s memory (headingNumber (x .answer)) x
 
-    stands : Stands (openOf s memory)
+    stands : Stands (openOf c s memory)
     stands =
-        by-test Stands (ltb 16777216 (length s)) _ _ (λ l. eight (ltb-true _ _ l))
-        (λ l. by-test Stands (ltb (length memory) 2048) _ _ (λ m. nine (ltb-false _ _ l) (ltb-true _ _ m))
-        (λ m. tried-stands s fresh (ltb-false _ _ l) fresh-in-range (Opens s memory) (λ _ _ t. sought (ltb-false _ _ l) (ltb-false _ _ m) t)))
+        by-opening c s memory Stands eight nine
+        (λ l m. tried-stands s (fresh c) l (fresh-in-range c) (Opens c s memory) (λ _ _ t. sought l m t))
 
-    only : {n : ℕ} {x : Asked} → Opens s memory n x → (x ≡ openOf s memory) × (headingNumber (x .answer) ≡ n)
+    only : {n : ℕ} {x : Asked} → Opens c s memory n x → (x ≡ openOf c s memory) × (headingNumber (x .answer) ≡ n)
     only (eight l) = (simp (lt-ltb _ _ l), refl)
     only (nine l m) = (simp (le-ltb _ _ l, lt-ltb _ _ m), refl)
-    only (sought l m t) = let o = tried-only s fresh l fresh-in-range t in (simp (le-ltb _ _ l, le-ltb _ _ m) (o .0), o .1)
+    only (sought l m t) = let o = tried-only s (fresh c) l (fresh-in-range c) t in (simp (le-ltb _ _ l, le-ltb _ _ m) (o .0), o .1)
 
-opening-row : {s : List ℕ} {memory : List Float} {n : ℕ} {x : Asked} → Opens s memory n x → (n ≤ 5) ⊎ ((n ≡ 8) ⊎ (n ≡ 9))
+opening-row : {c : Reading} {s : List ℕ} {memory : List Float} {n : ℕ} {x : Asked} → Opens c s memory n x → (n ≤ 5) ⊎ ((n ≡ 8) ⊎ (n ≡ 9))
 unfolding fresh
 opening-row (eight l) = inr (inl refl)
 opening-row (nine l m) = inr (inr refl)
 opening-row (sought l m t) = inl (first-number refl t)
 
-pub opening-gives : (s : List ℕ) (memory : List Float) → let n = headingNumber (openOf s memory .answer) in (n ≤ 5) ⊎ ((n ≡ 8) ⊎ (n ≡ 9))
-opening-gives s memory = opening-row (open-table s memory .holds)
+pub opening-gives : (c : Reading) (s : List ℕ) (memory : List Float) → let n = headingNumber (openOf c s memory .answer) in (n ≤ 5) ⊎ ((n ≡ 8) ⊎ (n ≡ 9))
+opening-gives c s memory = opening-row (open-table c s memory .holds)
 
 -- ---- samplerate: "10, or the rate, which is 0 without a header"
 
@@ -308,7 +258,7 @@ pub data Rated (a : Audio) : ℕ → Rate → Type 0 where
   ten : inRange a ≡ false → Rated a 10 (RateRefused 10)
   zero : inRange a ≡ true → Rated a 0 (Hertz (rateOf (a .format .samplerate)))
 
-pub samplerate-table : (a : Audio) → Table rateNumber (samplerateOf a) (Rated a)
+pub samplerate-table : (a : Audio) → TableOf rateNumber (samplerateOf a) (Rated a)
 unfolding samplerateOf
 samplerate-table a = record { holds = stands; only = only }
   where
@@ -335,7 +285,7 @@ has-header-ten : {s : List ℕ} {a : Audio} {x : Asked} → Asks s a 10 x → in
 has-header-ten (ten l r) = r
 has-header-ten (sought l r e t) = absurd (let n = attempt-number t in omega arith)
 
-opening-ten : {s : List ℕ} {m : List Float} {x : Asked} → Opens s m 10 x → ⊥
+opening-ten : {c : Reading} {s : List ℕ} {m : List Float} {x : Asked} → Opens c s m 10 x → ⊥
 opening-ten (sought l k t) = let n = attempt-number t in omega arith
 
 samplerate-ten : {a : Audio} {x : Rate} → Rated a 10 x → inRange a ≡ false
@@ -352,5 +302,5 @@ module _ {a : Audio} {m : List Float} (past : Past a m) where
   pub samplerate-never-gives-ten : rateNumber (samplerateOf a) ≡ 10 → ⊥
   samplerate-never-gives-ten e = never (sound-state-in-range past) (samplerate-ten (exactly (samplerate-table a) 10 _ .0 (refl, e)))
 
-pub opening-never-gives-ten : (s : List ℕ) (m : List Float) → headingNumber (openOf s m .answer) ≡ 10 → ⊥
-opening-never-gives-ten s m e = opening-ten (exactly (open-table s m) 10 _ .0 (refl, e))
+pub opening-never-gives-ten : (c : Reading) (s : List ℕ) (m : List Float) → headingNumber (openOf c s m .answer) ≡ 10 → ⊥
+opening-never-gives-ten c s m e = opening-ten (exactly (open-table c s m) 10 _ .0 (refl, e))

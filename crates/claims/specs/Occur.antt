@@ -16,18 +16,19 @@ use Rattle.buffer.specs.Calls.{readerAt, readOf, fieldOf, hasOf, skipBytesOf, s
 use Rattle.grammar.specs.Reads.{_>>=_, run}
 use Rattle.tables.specs.Standard.{rateOf}
 use Rattle.header.specs.Header.{headerOf, startOf, syncOf, seekOf, fieldsOf, identOf, ratesOf, restOf, modeOf, boundOf, checkOf, sizeOf}
-use Rattle.clock.specs.Clock.{startOf as timeOf, sameBits, onTime}
-use Rattle.audio.specs.State.{fresh, numbersOk, inRange}
-use Rattle.audio.specs.Before.{attemptOf, headedOf, enoughOf, readyOf}
-use Rattle.audio.specs.Calls.{answering, afterOf, framedOf, decodeOf, blank, openOf, openMemory}
+use Rattle.clock.specs.Clock.{startTimeOf, sameBits, onTime}
+use Rattle.header.specs.Readings.{plain}
+use Rattle.state.specs.State.{fresh, numbersOk, inRange, pends, framedTo}
+use Rattle.verdict.specs.Verdict.{attemptOf, headedOf, enoughOf, readyOf, atOnceOf}
+use Rattle.audio.specs.Calls.{answering, afterOf, framedOf, decodeOf, blank, openOf, openMemory, noRoomOf}
 use Rattle.audio.specs.Numbers.{headingNumber, answerNumber}
-use Rattle.audio.specs.declared.Audio.{Audio}
-use Rattle.audio.specs.declared.Heading.{Heading}
-use Rattle.audio.specs.declared.Heading.the-variants.{Known, Refused}
+use Rattle.state.specs.declared.Audio.{Audio}
+use Rattle.verdict.specs.declared.Heading.{Heading}
+use Rattle.verdict.specs.declared.Heading.the-variants.{Known, Refused}
 use Rattle.listing.specs.Lines.{nextOf}
 use Rattle.clip.specs.Frames.{quiet, heardOf, clipOf}
 use Rattle.claims.specs.Numbers.{Lent}
-use Rattle.claims.specs.Pasts.{Past, opened}
+use Rattle.past.specs.Pasts.{Past, opened}
 
 -- decode's number goes by the verdict, and so by the lengths of memory and output only
 abbrev pub verdict : List ℕ → ℕ → ℕ → Audio → ℕ
@@ -42,38 +43,32 @@ number-by-verdict s memory output a = let r = readyOf s (length memory) (length 
     go Known b = refl
     go (Refused n) b = refl
 
--- a state whose clip began at 32 kbps, 44,100 Hz, in stereo; and one with the ring between two slots
+-- a state whose clip began at 32 kbps, 44,100 Hz, in stereo; and one after a frame, with the ring between two slots
 abbrev pub begun : Audio
-begun =
-    record {
-      reader = readerAt 0;
-      format = record { samplerate = 0; bitrate = 0; mode = 0; bound = 32 };
-      frames = 0;
-      pending = 0;
-      ring = 0;
-      time = fin false 0 (pos 0);
-    }
+begun = pends (readerAt 0) (record { reading = plain; samplerate = 0; bitrate = 0; mode = 0; bound = 32 }) 0 (fresh plain)
 
 abbrev pub broken : Audio
-broken = record { reader = readerAt 0; format = begun .format; frames = 0; pending = 0; ring = 32; time = fin false 0 (pos 0) }
+broken = framedTo (readerAt 16) (begun .format) 32 begun
 
 -- 192 kbps, 44,100 Hz, stereo
 abbrev pub header : List ℕ
 header = 0xFF ∷ 0xFD ∷ 0xA0 ∷ 0x00 ∷ []
 
-pub numbers-occur : verdict (header ++ replicate 622 0) 2048 2304 fresh
-    ∷ verdict [] 2048 2304 fresh
-    ∷ verdict (1 ∷ replicate 5 0) 2048 2304 fresh
-    ∷ verdict (0xFF ∷ 0xFB ∷ replicate 4 0) 2048 2304 fresh
-    ∷ verdict (0xFF ∷ 0xFD ∷ replicate 4 0) 2048 2304 fresh
-    ∷ verdict (0xFF ∷ 0xFD ∷ 0xAC ∷ replicate 3 0) 2048 2304 fresh
+pub numbers-occur : verdict (header ++ replicate 622 0) 2048 2304 (fresh plain)
+    ∷ verdict [] 2048 2304 (fresh plain)
+    ∷ verdict (1 ∷ replicate 5 0) 2048 2304 (fresh plain)
+    ∷ verdict (0xFF ∷ 0xFB ∷ replicate 4 0) 2048 2304 (fresh plain)
+    ∷ verdict (0xFF ∷ 0xFD ∷ replicate 4 0) 2048 2304 (fresh plain)
+    ∷ verdict (0xFF ∷ 0xFD ∷ 0xAC ∷ replicate 3 0) 2048 2304 (fresh plain)
     ∷ verdict (header ++ replicate 2 0) 2048 2304 begun
-    ∷ verdict (header ++ replicate 2 0) 2048 2304 fresh
-    ∷ verdict [] 2047 2304 fresh
+    ∷ verdict (header ++ replicate 2 0) 2048 2304 (fresh plain)
+    ∷ verdict [] 2047 2304 (fresh plain)
     ∷ verdict [] 2048 2304 broken
     ∷ []
     ≡ 0 ∷ 1 ∷ 2 ∷ 3 ∷ 4 ∷ 5 ∷ 6 ∷ 7 ∷ 9 ∷ 10 ∷ []
-unfolding readyOf headedOf attemptOf enoughOf fresh inRange numbersOk onTime sameBits timeOf isNan toBits div ofInt round units odd size headerOf startOf syncOf seekOf searchOf hasOf skipBytesOf fieldOf readOf bitsValue bitAt firstFrom run _>>=_ fieldsOf identOf ratesOf restOf modeOf boundOf checkOf sizeOf
+unfolding readyOf atOnceOf headedOf attemptOf enoughOf fresh inRange numbersOk onTime sameBits startTimeOf isNan toBits div ofInt round units odd size
+    headerOf startOf syncOf seekOf searchOf hasOf skipBytesOf fieldOf readOf bitsValue bitAt firstFrom run _>>=_ fieldsOf identOf ratesOf restOf
+    modeOf boundOf checkOf sizeOf
 numbers-occur = refl
 
 -- 192 kbps, 48,000 Hz, stereo, and no data
@@ -81,8 +76,10 @@ abbrev pub cut : List ℕ
 cut = 0xFF ∷ 0xFD ∷ 0xA4 ∷ replicate 3 0
 
 -- no frame is heard of an empty clip, nor of one cut after its header: then E1's rate is 44,100, and not the header's (Wave `no-frame`)
-pub silence-occurs : (clipOf [] ≡ []) × (clipOf cut ≡ []) × (rateOf (attemptOf cut fresh .state .format .samplerate) ≡ 48000)
-unfolding clipOf heardOf nextOf decodeOf openOf openMemory blank table readyOf headedOf attemptOf enoughOf fresh inRange numbersOk onTime sameBits timeOf isNan toBits div ofInt round units odd size headerOf startOf syncOf seekOf searchOf hasOf skipBytesOf fieldOf readOf bitsValue bitAt firstFrom run _>>=_ fieldsOf identOf ratesOf restOf modeOf boundOf checkOf sizeOf
+pub silence-occurs : (clipOf [] ≡ []) × (clipOf cut ≡ []) × (rateOf (attemptOf cut (fresh plain) .state .format .samplerate) ≡ 48000)
+unfolding clipOf heardOf nextOf decodeOf openOf openMemory noRoomOf blank table readyOf atOnceOf headedOf attemptOf enoughOf fresh inRange numbersOk
+    onTime sameBits startTimeOf isNan toBits div ofInt round units odd size headerOf startOf syncOf seekOf searchOf hasOf skipBytesOf fieldOf readOf
+    bitsValue bitAt firstFrom run _>>=_ fieldsOf identOf ratesOf restOf modeOf boundOf checkOf sizeOf
 silence-occurs = (refl, refl, refl)
 
 -- one byte too many
@@ -94,7 +91,7 @@ unfolding long
 long-length = length-table 16777217 (λ _. 0)
 
 pub eight-occurs : (memory output : ℕ) (a : Audio) → verdict long memory output a ≡ 8
-unfolding readyOf
+unfolding readyOf atOnceOf
 eight-occurs memory output a = simp (lt-ltb 16777216 (length long) many)
   where
     many : 16777216 < length long
@@ -110,5 +107,5 @@ enough-lent =
       output-long = omega (arith, length-replicate 2304 (fin false 0 (pos 0)));
     }
 
-pub a-past : Past (openOf [] (quiet 2048) .state) (openMemory [] (quiet 2048))
-a-past = opened [] (quiet 2048) (enough-lent .short) (enough-lent .memory-long)
+pub a-past : Past (openOf plain [] (quiet 2048) .state) (openMemory [] (quiet 2048))
+a-past = opened plain [] (quiet 2048) (enough-lent .short) (enough-lent .memory-long)

@@ -8,8 +8,8 @@ use lib.Dec.{eqb, ltb}
 use lib.ListN.{length}
 use borrow.Author.Tests.{lt-ltb, le-ltb, ltb-true, ltb-false}
 use Rattle.ground.specs.Tests.{by-test}
-use Rattle.buffer.specs.Bits.{bitsValue, pastOf, stopOf}
-use Rattle.buffer.specs.Calls.{gate, left, byteOf, aligned, readerAt, readOf, hasOf, endedOf, alignOf, skipOf, tellOf, skipBytesOf, searchOf}
+use Rattle.buffer.specs.Bits.{bitsValue, pastOf, stopOf, longestStream, farthestBit}
+use Rattle.buffer.specs.Calls.{gate, left, bytePosOf, aligned, readerAt, readOf, hasOf, endedOf, alignOf, skipOf, tellOf, skipBytesOf, searchOf}
 use Rattle.buffer.specs.Numbers.{readNumber, holdsNumber, movedNumber, skippedNumber, toldNumber, syncNumber}
 use Rattle.buffer.specs.declared.Reader.{Reader}
 use Rattle.buffer.specs.declared.Read.{Read}
@@ -19,26 +19,26 @@ use Rattle.buffer.specs.declared.Moved.the-variants.{To, Refused as MovedRefuse
 use Rattle.buffer.specs.declared.Skipped.the-variants.{Bytes, Refused as SkippedRefused}
 use Rattle.buffer.specs.declared.Told.the-variants.{At, Refused as ToldRefused}
 use Rattle.buffer.specs.declared.Sync.the-variants.{Found, Missing, Refused as SyncRefused}
-use Rattle.claims.specs.Tables.{Table}
+use Rattle.ground.specs.Rows.{TableOf}
 
 -- ---- 8 and 10, for every call
 
 pub data Gated {A : Type 0} (s : List ℕ) (r : Reader) (refuse : ℕ → A) (number : ℕ) (go : A) : ℕ → A → Type 0 where
   -- "stream above 16,777,216 bytes"
-  eight : 16777216 < length s → Gated s r refuse number go 8 (refuse 8)
+  eight : longestStream < length s → Gated s r refuse number go 8 (refuse 8)
   -- "state out of range": "bit position at most 134,217,736"
-  ten : length s ≤ 16777216 → 134217736 < r .at .0 → Gated s r refuse number go 10 (refuse 10)
+  ten : length s ≤ longestStream → farthestBit < r .at .0 → Gated s r refuse number go 10 (refuse 10)
   -- neither
-  answered : length s ≤ 16777216 → r .at .0 ≤ 134217736 → Gated s r refuse number go number go
+  answered : length s ≤ longestStream → r .at .0 ≤ farthestBit → Gated s r refuse number go number go
 
 module _ {A : Type 0} (s : List ℕ) (r : Reader) (refuse : ℕ → A) (go : A) (number : A → ℕ) (given : (n : ℕ) → number (refuse n) ≡ n)
     (k : ℕ) (otherwise : number go ≡ k) where
-  pub gate-table : Table number (gate s r refuse go) (Gated s r refuse k go)
+  pub gate-table : TableOf number (gate s r refuse go) (Gated s r refuse k go)
   gate-table =
       record {
         holds =
-            by-test (λ x. Row (number x) x) (ltb 16777216 (length s)) _ _ (λ e. refused 8 (eight (ltb-true _ _ e)))
-            (λ e. by-test (λ x. Row (number x) x) (ltb 134217736 (r .at .0)) _ _ (λ f. refused 10 (ten (ltb-false _ _ e) (ltb-true _ _ f)))
+            by-test (λ x. Row (number x) x) (ltb longestStream (length s)) _ _ (λ e. refused 8 (eight (ltb-true _ _ e)))
+            (λ e. by-test (λ x. Row (number x) x) (ltb farthestBit (r .at .0)) _ _ (λ f. refused 10 (ten (ltb-false _ _ e) (ltb-true _ _ f)))
             (λ f. subst (λ (i : ℕ). Row i go) (sym otherwise) (answered (ltb-false _ _ e) (ltb-false _ _ f))));
         only = one;
       }
@@ -56,17 +56,17 @@ module _ {A : Type 0} (s : List ℕ) (r : Reader) (refuse : ℕ → A) (go : A) 
 
 -- ---- read goes on to 11 and 12
 
-pub data Reads (s : List ℕ) (r : Reader) (n : ℕ) : ℕ → Read → Type 0 where
+pub data ReadGives (s : List ℕ) (r : Reader) (n : ℕ) : ℕ → Read → Type 0 where
   -- "bit read of more than 32 bits"
-  eleven : 32 < n → Reads s r n 11 (Refused 11)
+  eleven : 32 < n → ReadGives s r n 11 (Refused 11)
   -- "bit read wider than what remains"
-  twelve : n ≤ 32 → left s r < n → Reads s r n 12 Short
-  zero : n ≤ 32 → n ≤ left s r → Reads s r n 0 (Value (bitsValue s (r .at .0) n) (readerAt (r .at .0 + n)))
+  twelve : n ≤ 32 → left s r < n → ReadGives s r n 12 Short
+  zero : n ≤ 32 → n ≤ left s r → ReadGives s r n 0 (Value (bitsValue s (r .at .0) n) (readerAt (r .at .0 + n)))
 
 abbrev pub reading : List ℕ → Reader → ℕ → Read
 reading s r n = cond (ltb 32 n) (Refused 11) (cond (ltb (left s r) n) Short (Value (bitsValue s (r .at .0) n) (readerAt (r .at .0 + n))))
 
-pub reading-table : (s : List ℕ) (r : Reader) (n : ℕ) → Table readNumber (reading s r n) (Reads s r n)
+pub reading-table : (s : List ℕ) (r : Reader) (n : ℕ) → TableOf readNumber (reading s r n) (ReadGives s r n)
 reading-table s r n =
     record {
       holds =
@@ -76,9 +76,9 @@ reading-table s r n =
     }
   where
     P : Read → Type 0
-    P x = Reads s r n (readNumber x) x
+    P x = ReadGives s r n (readNumber x) x
 
-    one : {k : ℕ} {x : Read} → Reads s r n k x → (x ≡ reading s r n) × (readNumber x ≡ k)
+    one : {k : ℕ} {x : Read} → ReadGives s r n k x → (x ≡ reading s r n) × (readNumber x ≡ k)
     one (eleven l) = (simp (lt-ltb _ _ l), refl)
     one (twelve l f) = (simp (le-ltb _ _ l, lt-ltb _ _ f), refl)
     one (zero l f) = (simp (le-ltb _ _ l, le-ltb _ _ f), refl)
@@ -86,38 +86,38 @@ reading-table s r n =
 -- ---- the eight calls
 
 module _ (s : List ℕ) (r : Reader) where
-  pub read-table : (n : ℕ) → Table readNumber (readOf s r n) (Gated s r Refused (readNumber (reading s r n)) (reading s r n))
+  pub read-table : (n : ℕ) → TableOf readNumber (readOf s r n) (Gated s r Refused (readNumber (reading s r n)) (reading s r n))
   unfolding readOf
   read-table n = gate-table s r Refused (reading s r n) readNumber (λ _. refl) _ refl
 
   -- the others answer: 0
-  pub has-table : (n : ℕ) → Table holdsNumber (hasOf s r n) (Gated s r HoldsRefused 0 (cond (ltb (left s r) n) No Yes))
+  pub has-table : (n : ℕ) → TableOf holdsNumber (hasOf s r n) (Gated s r HoldsRefused 0 (cond (ltb (left s r) n) No Yes))
   unfolding hasOf
   has-table n = gate-table s r HoldsRefused _ holdsNumber (λ _. refl) 0 (by-test (λ x. holdsNumber x ≡ 0) (ltb (left s r) n) _ _ (λ _. refl) (λ _. refl))
 
-  pub has-ended-table : Table holdsNumber (endedOf s r) (Gated s r HoldsRefused 0 (cond (eqb (left s r) 0) Yes No))
+  pub has-ended-table : TableOf holdsNumber (endedOf s r) (Gated s r HoldsRefused 0 (cond (eqb (left s r) 0) Yes No))
   unfolding endedOf
   has-ended-table = gate-table s r HoldsRefused _ holdsNumber (λ _. refl) 0 (by-test (λ x. holdsNumber x ≡ 0) (eqb (left s r) 0) _ _ (λ _. refl) (λ _. refl))
 
-  pub align-table : Table movedNumber (alignOf s r) (Gated s r MovedRefused 0 (To (aligned r)))
+  pub align-table : TableOf movedNumber (alignOf s r) (Gated s r MovedRefused 0 (To (aligned r)))
   unfolding alignOf
   align-table = gate-table s r MovedRefused _ movedNumber (λ _. refl) 0 refl
 
-  pub skip-table : (n : ℕ) → Table movedNumber (skipOf s r n) (Gated s r MovedRefused 0 (cond (ltb (left s r) n) (To r) (To (readerAt (r .at .0 + n)))))
+  pub skip-table : (n : ℕ) → TableOf movedNumber (skipOf s r n) (Gated s r MovedRefused 0 (cond (ltb (left s r) n) (To r) (To (readerAt (r .at .0 + n)))))
   unfolding skipOf
   skip-table n = gate-table s r MovedRefused _ movedNumber (λ _. refl) 0 (by-test (λ x. movedNumber x ≡ 0) (ltb (left s r) n) _ _ (λ _. refl) (λ _. refl))
 
-  pub tell-table : Table toldNumber (tellOf s r) (Gated s r ToldRefused 0 (At (byteOf (r .at))))
+  pub tell-table : TableOf toldNumber (tellOf s r) (Gated s r ToldRefused 0 (At (bytePosOf (r .at))))
   unfolding tellOf
   tell-table = gate-table s r ToldRefused _ toldNumber (λ _. refl) 0 refl
 
   pub skip-bytes-table : (v : ℕ) → let from = (r .at .0 + 7) / 8 in
-      Table skippedNumber (skipBytesOf s r v) (Gated s r SkippedRefused 0 (Bytes (pastOf s v from - from) (readerAt (pastOf s v from * 8))))
+      TableOf skippedNumber (skipBytesOf s r v) (Gated s r SkippedRefused 0 (Bytes (pastOf s v from - from) (readerAt (pastOf s v from * 8))))
   unfolding skipBytesOf
   skip-bytes-table v = gate-table s r SkippedRefused _ skippedNumber (λ _. refl) 0 refl
 
   pub search-table : let stop = stopOf s (r .at .0 / 8) in
-      Table syncNumber (searchOf s r)
+      TableOf syncNumber (searchOf s r)
       (Gated s r SyncRefused 0 (cond (ltb stop (length s - 1)) (Found (readerAt ((stop + 1) * 8 + 3))) (Missing (readerAt ((stop + 1) * 8)))))
   unfolding searchOf
   search-table =

@@ -1,41 +1,44 @@
 -- Demand 3: the last clip "rings on for 15 blocks of 32 samples, and there it must stop". Two decoders with any two pasts since opening,
 -- whose counts of accepted frames leave the same remainder by 4, accept agreeing frames: both use the same number of bits, samples 481 to
 -- 1,152 of each channel are equal, and while the accepted frames go on agreeing so, every later sample. Assumes nothing.
-use Prim.Native.Nat.{ℕ, _+_, _-_, _*_, _/_, _%_, _≤_, _<_}
+use Prim.Native.Nat.{ℕ, _+_, _-_, _*_, _%_, _≤_, _<_}
 use mathlib.Core.Path.{_≡_, refl, sym, ap, ap₂, _∙_}
 use mathlib.Core.List.{List}
 use native.Mathlib.Nat.{zero-add}
 use native.Mathlib.Omega.{arith}
-use native.Mathlib.Decide.{ℕ-discrete}
 use lib.IntN.{ℤ}
 use lib.Ieee.{Float, nan}
 use lib.ListN.{length, getD}
 use Rattle.grammar.specs.Reads.{run, called}
 use Rattle.grammar.specs.Widths.{Agree, Alike, alike, same-used}
 use Rattle.header.specs.Header.{boundBy}
+use Rattle.header.specs.Accepted.{Extended}
 use Rattle.header.specs.declared.Format.{Format}
+use Rattle.header.specs.declared.Reading.{Reading}
 use Rattle.window.specs.Output.{Place}
-use Rattle.synthesis.specs.Slots.{positionAfter, outputsAt, leftOf, rightOf, memoryAfter, outputAfter}
-use Rattle.synthesis.specs.Output.{output-even, output-odd}
-use Rattle.synthesis.specs.Wash.{left-washed, right-washed, output-washed}
+use Rattle.synthesis.specs.Slots.{positionAfter, ringOf, memoryAfter, outputAfter, outputLength, memoryLength}
+use Rattle.synthesis.specs.Wash.{ring-washed, output-washed, output-by-rings}
 use Rattle.frame.specs.Frame.{codesIn, granulesAt, slotsOf}
 use Rattle.audio.specs.Calls.{decodeOf, decodeMemory, hasHeaderOf}
-use Rattle.audio.specs.declared.Audio.{Audio}
+use Rattle.state.specs.declared.Audio.{Audio}
 use Rattle.audio.specs.declared.Answer.the-variants.{Refused as AnswerRefused}
-use Rattle.claims.specs.Pasts.{Past, asked, rated, decoded, refused}
+use Rattle.past.specs.Pasts.{Past, asked, rated, decoded, refused}
 use Rattle.claims.specs.Untouched.{refused-call-leaves-all}
-use Rattle.claims.specs.Accepted.{has-header-keeps, Call, outcome, newMemory, newOutput, sample, frameState, firstBit, bitsCalled, Accepts, granulesIn, Leaves, accepted-leaves, accepted-bits, refused-keeps, short-keeps}
-use Rattle.claims.specs.Ring.{ring-by-frames, ring-in-place}
-use Rattle.claims.specs.Finite.{samples-finite, BitForBit, equal-values-equal-bits}
+use Rattle.past.specs.Calls.{has-header-keeps, Call, outcome, newMemory, newOutput, sample, frameState, firstBit, bitsCalled, Accepts, accepted-known, granulesIn, Leaves, accepted-leaves, accepted-bits, refused-keeps, short-keeps}
+use Rattle.past.specs.Sound.{sound, sound-state-in-range, frame-has-extension}
+use Rattle.past.specs.Ring.{ring-by-frames, ring-in-place}
+use Rattle.past.specs.Finite.{samples-finite, BitForBit, equal-values-equal-bits}
 
 -- ---- agreeing frames
 
 -- "both accept a frame of the same sample rate, bit rate, mode and mode extension, and the bits from its first allocation bit to the
 -- last bit it calls for are all present and equal". The second calls for as many (`same-bits-called`), and each accepted frame has an
--- extension (Extension)
+-- extension (`accepted-frame-has-extension`)
 pub record Agreeing (c d : Call) : Type 0 where
   pub accepts : Accepts c
   pub accepts′ : Accepts d
+  -- opened with the same choices
+  pub reading : frameState c .format .reading ≡ frameState d .format .reading
   pub samplerate : frameState c .format .samplerate ≡ frameState d .format .samplerate
   pub bitrate : frameState c .format .bitrate ≡ frameState d .format .bitrate
   pub mode : frameState c .format .mode ≡ frameState d .format .mode
@@ -46,19 +49,20 @@ pub record Agreeing (c d : Call) : Type 0 where
   pub present′ : firstBit d + bitsCalled c ≤ 8 * length (d .stream)
   pub equal : Agree (c .stream) (firstBit c) (d .stream) (firstBit d) (bitsCalled c)
 
-one-format : (f g : Format) (e : ℕ) → f .samplerate ≡ g .samplerate → f .bitrate ≡ g .bitrate → f .mode ≡ g .mode
+one-format : (f g : Format) (e : ℕ) → f .reading ≡ g .reading → f .samplerate ≡ g .samplerate → f .bitrate ≡ g .bitrate → f .mode ≡ g .mode
     → f .bound ≡ boundBy (f .mode) e → g .bound ≡ boundBy (g .mode) e → f ≡ g
-one-format f g e r b m h k =
+one-format f g e w r b m h k =
     let z : f .bound ≡ g .bound = h ∙ ap (λ (x : ℕ). boundBy x e) m ∙ sym k in
-    go (f .samplerate) (g .samplerate) (f .bitrate) (g .bitrate) (f .mode) (g .mode) (f .bound) (g .bound) r b m z
+    go (f .reading) (g .reading) (f .samplerate) (g .samplerate) (f .bitrate) (g .bitrate) (f .mode) (g .mode) (f .bound) (g .bound) w r b m z
   where
-    go : (r r′ b b′ m m′ h h′ : ℕ) → r ≡ r′ → b ≡ b′ → m ≡ m′ → h ≡ h′
-        → _≡_ {A = Format} (record { samplerate = r; bitrate = b; mode = m; bound = h }) (record { samplerate = r′; bitrate = b′; mode = m′; bound = h′ })
-    go r r′ b b′ m m′ h h′ p q s t = cc
+    go : (w w′ : Reading) (r r′ b b′ m m′ h h′ : ℕ) → w ≡ w′ → r ≡ r′ → b ≡ b′ → m ≡ m′ → h ≡ h′
+        → _≡_ {A = Format} (record { reading = w; samplerate = r; bitrate = b; mode = m; bound = h })
+        (record { reading = w′; samplerate = r′; bitrate = b′; mode = m′; bound = h′ })
+    go w w′ r r′ b b′ m m′ h h′ o p q s t = cc
 
 module _ {c d : Call} (agree : Agreeing c d) where
   format : frameState c .format ≡ frameState d .format
-  format = one-format _ _ (agree .extension) (agree .samplerate) (agree .bitrate) (agree .mode) (agree .bound) (agree .bound′)
+  format = one-format _ _ (agree .extension) (agree .reading) (agree .samplerate) (agree .bitrate) (agree .mode) (agree .bound) (agree .bound′)
 
   read-alike : Alike (codesIn (frameState c .format)) (c .stream) (frameState c .reader) (d .stream) (frameState d .reader)
   read-alike =
@@ -93,6 +97,7 @@ agree-both-ways {c} {d} agree =
     record {
       accepts = agree .accepts′;
       accepts′ = agree .accepts;
+      reading = sym (agree .reading);
       samplerate = sym (agree .samplerate);
       bitrate = sym (agree .bitrate);
       mode = sym (agree .mode);
@@ -111,6 +116,7 @@ agrees-with-itself ok e b h =
     record {
       accepts = ok;
       accepts′ = ok;
+      reading = refl;
       samplerate = refl;
       bitrate = refl;
       mode = refl;
@@ -122,30 +128,25 @@ agrees-with-itself ok e b h =
       equal = λ i l. refl;
     }
 
+-- ---- the mode extension
+
+-- every frame that is accepted since opening has one, 0 to 3, by which its bound goes: 01, "joint stereo (1) gives 4 times (extension
+-- + 1), mono (3) gives 0, others 32". So "same mode extension" can be said by the bound
+pub accepted-frame-has-extension : {c : Call} → Past (c .state) (c .memory) → Accepts c
+    → Extended (frameState c .format .mode) (frameState c .format .bound)
+accepted-frame-has-extension {c} p ok =
+    frame-has-extension (c .stream) (length (c .memory)) (length (c .output)) (c .state) (sound-state-in-range p) (sound p) (accepted-known c ok)
+
+-- and in joint stereo, where alone it matters, the bound tells it
+pub joint-bound-tells-extension : (e f : ℕ) → boundBy 1 e ≡ boundBy 1 f → e ≡ f
+joint-bound-tells-extension e f h = omega arith
+
 -- ---- the samples
 
 -- as far as the synthesis goes two decoders are one: what lies past the rings may differ
 record Joined (a : Audio) (m : List Float) (b : Audio) (n : List Float) : Type 0 where
   ring : a .ring ≡ b .ring
-  left : leftOf m ≡ leftOf n
-  right : rightOf m ≡ rightOf n
-
--- 36 slots of the same samples from one ring position, on memories with the same rings
-module _ (f : ℕ → ℕ → List ℤ) (p : ℕ) (m n : List Float) (left : leftOf m ≡ leftOf n) (right : rightOf m ≡ rightOf n) where
-  joined-output : (o u : List Float) → 2304 ≤ length o → 2304 ≤ length u → (i : ℕ) → i < 2304
-      → getD (outputAfter f p m o 0 36) i nan ≡ getD (outputAfter f p n u 0 36) i nan
-  joined-output o u lo lu i l = rw (← zero-add i) (go (ℕ-discrete (i % 2) 0))
-    where
-      odd : ¬ (i % 2 ≡ 0) → i % 2 ≡ 1
-      odd x = omega arith
-
-      go : Dec (i % 2 ≡ 0) → getD (outputAfter f p m o 0 36) (0 + i) nan ≡ getD (outputAfter f p n u 0 36) (0 + i) nan
-      go (yes x) =
-          output-even f p m o 0 36 lo i l x ∙ ap (λ (r : List Float). outputsAt (f 0) p r (i / 64) (i % 64 / 2)) left
-          ∙ sym (output-even f p n u 0 36 lu i l x)
-      go (no x) =
-          output-odd f p m o 0 36 lo i l (odd x) ∙ ap (λ (r : List Float). outputsAt (f 1) p r (i / 64) (i % 64 / 2)) right
-          ∙ sym (output-odd f p n u 0 36 lu i l (odd x))
+  rings : (channel : ℕ) → channel < 2 → ringOf channel m ≡ ringOf channel n
 
 -- what a call that accepts a frame leaves, by its ring position and granules
 module _ (x : Call) (ok : Accepts x) (p : ℕ) (at : x .state .ring ≡ p) (granules : List (List ℤ)) (is : granulesIn x ≡ granules) where
@@ -189,11 +190,11 @@ module _ {c d : Call} (agree : Agreeing c d) (ring : c .state .ring ≡ d .state
       let n = lent′ .goes .memory-long in
       record {
         ring = ring-after;
-        left = memories leftOf (left-washed f f place (c .memory) (d .memory) m n 36 (λ _ _ _ _. refl) (omega arith));
-        right = memories rightOf (right-washed f f place (c .memory) (d .memory) m n 36 (λ _ _ _ _. refl) (omega arith));
+        rings = λ channel two.
+            memories (ringOf channel) (ring-washed f f place (c .memory) (d .memory) m n 36 (λ _ _ _ _. refl) channel two (omega arith));
       }
 
-  first-output : (i : ℕ) → 960 ≤ i → i < 2304 → getD (newOutput c) i nan ≡ getD (newOutput d) i nan
+  first-output : (i : ℕ) → 960 ≤ i → i < outputLength → getD (newOutput c) i nan ≡ getD (newOutput d) i nan
   first-output i late l =
       outputs i
       (rw (← zero-add i)
@@ -201,12 +202,13 @@ module _ {c d : Call} (agree : Agreeing c d) (ring : c .state .ring ≡ d .state
       (lent .goes .output-long) (lent′ .goes .output-long) i late l))
 
   -- where the rings are equal already, every sample is
-  later-output : leftOf (c .memory) ≡ leftOf (d .memory) → rightOf (c .memory) ≡ rightOf (d .memory)
-      → (i : ℕ) → i < 2304 → getD (newOutput c) i nan ≡ getD (newOutput d) i nan
-  later-output left right i l =
+  later-output : ((channel : ℕ) → channel < 2 → ringOf channel (c .memory) ≡ ringOf channel (d .memory))
+      → (i : ℕ) → i < outputLength → getD (newOutput c) i nan ≡ getD (newOutput d) i nan
+  later-output rings i l =
       outputs i
-      (joined-output f (c .state .ring) (c .memory) (d .memory) left right (c .output) (d .output)
-      (lent .goes .output-long) (lent′ .goes .output-long) i l)
+      (rw (← zero-add i)
+      (output-by-rings f (c .state .ring) (c .memory) (d .memory) rings 36 (c .output) (d .output) 0 0
+      (lent .goes .output-long) (lent′ .goes .output-long) i l))
 
 -- ---- the first agreeing frame, whatever came before
 
@@ -238,7 +240,7 @@ pub data Passes (a : Audio) (m : List Float) : Audio → List Float → Type 0 w
   rates : Passes a m a m
   refuses : (s : List ℕ) (o : List Float) (number : ℕ) → decodeOf s m o a .answer ≡ AnswerRefused number
       → Passes a m (decodeOf s m o a .state) (decodeMemory s m o a)
-  too-short : (s : List ℕ) (o short : List Float) → length short < 2048 → Passes a m (decodeOf s short o a .state) m
+  too-short : (s : List ℕ) (o short : List Float) → length short < memoryLength → Passes a m (decodeOf s short o a .state) m
 
 -- two decoders that accepted agreeing frames, and since then, each on its own streams, any calls that accept no frame, and pair by
 -- pair further agreeing frames: "with no opening and no other writing between"
@@ -275,11 +277,11 @@ stay-joined (begin c d p q r e) = begun p q r e
 stay-joined (one-passes t x) =
     let j = stay-joined t in
     let k = passed-keeps x in
-    record { ring = k .0 ∙ j .ring; left = ap leftOf (k .1) ∙ j .left; right = ap rightOf (k .1) ∙ j .right }
+    record { ring = k .0 ∙ j .ring; rings = λ channel two. ap (ringOf channel) (k .1) ∙ j .rings channel two }
 stay-joined (other-passes t x) =
     let j = stay-joined t in
     let k = passed-keeps x in
-    record { ring = j .ring ∙ sym (k .0); left = j .left ∙ sym (ap leftOf (k .1)); right = j .right ∙ sym (ap rightOf (k .1)) }
+    record { ring = j .ring ∙ sym (k .0); rings = λ channel two. j .rings channel two ∙ sym (ap (ringOf channel) (k .1)) }
 stay-joined (again c d t e) = joined-after e (stay-joined t .ring) (ring-in-place (past-one t))
 
 -- "every later sample is equal too"
@@ -287,7 +289,7 @@ module _ {c d : Call} (together : Together (c .state) (c .memory) (d .state) (d 
   pub every-later-sample : (channel k : ℕ) → channel < 2 → 1 ≤ k → k ≤ 1152 → sample (newOutput c) channel k ≡ sample (newOutput d) channel k
   every-later-sample channel k two first last =
       let j = stay-joined together in
-      later-output agree (j .ring) (ring-in-place (past-one together)) (j .left) (j .right) (2 * (k - 1) + channel) (omega arith)
+      later-output agree (j .ring) (ring-in-place (past-one together)) (j .rings) (2 * (k - 1) + channel) (omega arith)
 
   pub every-later-sample-bit-for-bit : (channel k : ℕ) → channel < 2 → 1 ≤ k → k ≤ 1152
       → BitForBit (sample (newOutput c) channel k) (sample (newOutput d) channel k)

@@ -1,6 +1,6 @@
 -- 01's table of proved examples: the thirteen rows as one list, with one claim. What is given stands in `rows`, what is got in `got`.
 -- Assumes nothing.
-use Prim.Native.Nat.{ℕ, _+_}
+use Prim.Native.Nat.{ℕ}
 use mathlib.Core.Path.{_≡_, ap₂}
 use mathlib.Core.List.{List, [], _∷_, _++_, map}
 use lib.IntN.{ℤ, pos, negsuc}
@@ -78,5 +78,6 @@ abbrev pub got : List (List Cell)
 got = (number (pos 10) ∷ number (pos 83) ∷ short ∷ number (pos 12) ∷ []) ∷ middle (number (pos 0))
 
 pub the-thirteen-rows : (levels digit : ℕ) → rows levels digit ≡ got
-unfolding rows readOf fieldOf bitsValue bitAt announced headerOf startOf syncOf hasOf skipBytesOf firstFrom run _>>=_ fieldsOf identOf ratesOf restOf modeOf boundOf checkOf sizeOf limitOf chosen serves sblimit rowsOf sampleOf scaledBy scaleOf adjOf factorOf
+unfolding rows readOf fieldOf bitsValue bitAt announced headerOf startOf syncOf hasOf skipBytesOf firstFrom run _>>=_ fieldsOf identOf ratesOf restOf
+    modeOf boundOf checkOf sizeOf limitOf chosen serves sblimit rowsOf sampleOf scaledBy scaleOf adjOf factorOf
 the-thirteen-rows levels digit = ap₂ (λ first last. answers first ∷ middle (number last)) row-1 (row-13 levels digit)

@@ -2,7 +2,7 @@
 -- a header": "on n bytes at most n/2 + 1 decode calls come before all answer 1 or 7". Assumes nothing.
 use Prim.Native.Nat.{ℕ, zero, suc, _+_, _*_, _/_, _≤_}
 use mathlib.Core.Path.{_≡_, refl, sym, ap, subst, _∙_}
-use mathlib.Core.Bool.{true}
+use mathlib.Core.Bool.{true, false}
 use mathlib.Core.List.{List}
 use mathlib.Core.Logic.{_⊎_, inl, inr}
 use native.Mathlib.Nat.{add-zero, add-suc}
@@ -12,19 +12,20 @@ use native.Mathlib.Decide.{ℕ-discrete}
 use lib.Ieee.{Float}
 use lib.ListN.{length}
 use Rattle.buffer.specs.Calls.{left}
-use Rattle.header.specs.Accepted.{Good, GoodHeader, header-good}
-use Rattle.header.specs.Moves.{attempt-moves}
-use Rattle.header.specs.declared.Attempt.{Attempt}
-use Rattle.audio.specs.State.{inRange}
+use Rattle.state.specs.State.{inRange}
 use Rattle.audio.specs.Calls.{decodeOf}
-use Rattle.audio.specs.Numbers.{answerNumber}
-use Rattle.audio.specs.Facts.{ranged}
-use Rattle.audio.specs.declared.Audio.{Audio}
+use Rattle.audio.specs.Numbers.{answerNumber, ends, callersMistake}
+use lib.Dec.{eqb}
+use borrow.Author.Tests.{eqb-true, eqb-false}
+use Rattle.ground.specs.Tests.{either, neither}
+use Rattle.ground.specs.Rows.{never}
+use Rattle.state.specs.declared.Audio.{Audio}
 use Rattle.audio.specs.declared.Decoded.{Decoded}
-use Rattle.claims.specs.Tables.{exactly, never}
-use Rattle.claims.specs.Attempts.{Attempts, one, attempt-table, attempt-number, attempt-room}
-use Rattle.claims.specs.Numbers.{Lent, Heads, waits, accepts, Decodes, eight, nine, ten, sought, seven, zero as frame, refused, decode-table, heads-within, decoded-frame-ready}
-use Rattle.claims.specs.Sound.{frame-moves, decode-stays-in-range}
+use Rattle.ground.specs.Rows.{exactly}
+use Rattle.header.specs.Attempts.{one, attempt-number}
+use Rattle.claims.specs.Numbers.{Lent, InOrder, waits, Decodes, eight, nine, ten, sought, seven, zero as frame, refused, decode-table, pending-within}
+use Rattle.past.specs.Moves.{call-moves}
+use Rattle.past.specs.Sound.{decode-stays-in-range}
 
 -- ---- 1 and 7 repeat
 
@@ -35,13 +36,13 @@ Settled s n a = (memory output : List Float) → Lent s memory output → decode
 module _ {s : List ℕ} {memory output : List Float} {a : Audio} where
   one-settles : {x : Decoded} → Decodes s memory output a 1 x → Settled s 1 (x .state)
   one-settles (sought c e (one l)) =
-      λ m o lent. sym (decode-table s m o a .only (sought (record { lent = lent; within = c .within }) e (one l)) .0)
+      λ m o lent. sym (decode-table s m o a .only (sought (record { room = lent; within = c .within }) e (one l)) .0)
 
   seven-settles : {x : Decoded} → Decodes s memory output a 7 x → Settled s 7 (x .state)
   seven-settles (sought c e t) = absurd (let n = attempt-number t in omega arith)
   seven-settles (seven {b} c h l) =
       λ m o lent. sym (decode-table s m o b .only
-      (seven (record { lent = lent; within = heads-within s memory output a c h }) (waits (λ e. omega arith)) l) .0)
+      (seven (record { room = lent; within = pending-within s memory output a c h }) (waits (λ e. omega arith)) l) .0)
 
 module _ (s : List ℕ) (memory output : List Float) (a : Audio) where
   pub one-repeats : answerNumber (decodeOf s memory output a .answer) ≡ 1 → Settled s 1 (decodeOf s memory output a .state)
@@ -50,45 +51,52 @@ module _ (s : List ℕ) (memory output : List Float) (a : Audio) where
   pub seven-repeats : answerNumber (decodeOf s memory output a .answer) ≡ 7 → Settled s 7 (decodeOf s memory output a .state)
   seven-repeats e = seven-settles (exactly (decode-table s memory output a) 7 _ .0 (refl, e))
 
--- ---- every other call moves on
+-- ---- which numbers end a stream, and which are the caller's (audio, Numbers)
 
--- an attempt that is not 1
-attempt-forth : (s : List ℕ) (a : Audio) → length s ≤ 16777216 → inRange a ≡ true → {n : ℕ} {x : Attempt}
-    → Attempts s (a .reader) (a .format) n x → (n ≡ 1 → ⊥) → a .reader .at .0 + 16 ≤ x .next .at .0
-attempt-forth s a short r t not =
-    let near = ranged a r .near in
-    let m = attempt-moves s (a .reader) (a .format) (record { short = short; near = near; enough = attempt-room t not }) in
-    rw (attempt-table s (a .reader) short near (a .format) .only t .0) (omega arith)
+module _ (s : List ℕ) (memory output : List Float) (a : Audio) where
+  abbrev number : ℕ
+  number = answerNumber (decodeOf s memory output a .answer)
 
-heads-forth : {s : List ℕ} {a b : Audio} → length s ≤ 16777216 → inRange a ≡ true → Heads s a b → a .reader .at .0 ≤ b .reader .at .0
-heads-forth short r (waits n) = omega arith
-heads-forth {s} {a} short r (accepts e t) = omega (arith, attempt-forth s a short r t (λ z. omega arith))
+  -- what `ends` says of 1 and 7: the same answer for ever
+  pub an-end-lasts : ends number ≡ true → Settled s number (decodeOf s memory output a .state)
+  an-end-lasts e =
+      either {a = eqb number 1} _ e
+      (λ h. let n = eqb-true _ _ h in subst (λ k. Settled s k (decodeOf s memory output a .state)) (sym n) (one-repeats s memory output a n))
+      (λ h. let n = eqb-true _ _ h in subst (λ k. Settled s k (decodeOf s memory output a .state)) (sym n) (seven-repeats s memory output a n))
 
-heads-some : {s : List ℕ} {a b : Audio} → length s ≤ 16777216 → inRange a ≡ true → Heads s a b → b .pending ≡ 0 → ⊥
-heads-some short r (waits n) z = n z
-heads-some {s} {a} short r (accepts {f} {size} e t) z =
-    let o = attempt-table s (a .reader) short (ranged a r .near) (a .format) .only t .0 in
-    let g : Good (a .format) f size = subst (λ (x : Attempt). GoodHeader (a .format) (x .header)) (sym o) (header-good s (a .reader) (a .format)) in
-    omega arith
+  -- what `callersMistake` says of 8, 9 and 10: something was lent or saved wrong, and nothing happened
+  mistaken : {n : ℕ} {x : Decoded} → Decodes s memory output a n x → (n ≤ 7) ⊎ ((InOrder s memory output a → ⊥) × (x .state ≡ a))
+  mistaken (eight l) = inr ((λ c. let k = c .room .short in omega arith), refl)
+  mistaken (nine l (inl h)) = inr ((λ c. let k = c .room .memory-long in omega arith), refl)
+  mistaken (nine l (inr h)) = inr ((λ c. let k = c .room .output-long in omega arith), refl)
+  mistaken (ten l r) = inr ((λ c. never (c .within) r), refl)
+  mistaken (sought c e t) = inl (omega (arith, attempt-number t))
+  mistaken (seven c h l) = inl (omega arith)
+  mistaken (frame c h l) = inl (omega arith)
 
--- with a header waiting 720 bits are left for its data; else there were 48 for the attempt
-heads-room : {s : List ℕ} {a b : Audio} → inRange a ≡ true → Heads s a b → 8 * b .pending ≤ left s (b .reader) → 48 ≤ left s (a .reader)
-heads-room {a = a} r (waits n) l = let large = ranged a r .large n in omega arith
-heads-room r (accepts e t) l = attempt-room t (λ z. omega arith)
+  pub a-mistake-is-the-callers : callersMistake number ≡ true
+      → (InOrder s memory output a → ⊥) × (decodeOf s memory output a .state ≡ a)
+  a-mistake-is-the-callers e = go (mistaken (decode-table s memory output a .holds))
+    where
+      is : (k : ℕ) → 8 ≤ k → number ≡ k → 8 ≤ number
+      is k l n = omega arith
 
-unsettled-moves : {s : List ℕ} {memory output : List Float} {a : Audio} {n : ℕ} {x : Decoded} → Lent s memory output → inRange a ≡ true
-    → Decodes s memory output a n x → (n ≡ 1 → ⊥) → (n ≡ 7 → ⊥)
-    → (48 ≤ left s (a .reader)) × (a .reader .at .0 + 16 ≤ x .state .reader .at .0)
-unsettled-moves l r (eight h) p q = absurd (let k = l .short in omega arith)
-unsettled-moves l r (nine _ (inl h)) p q = absurd (let k = l .memory-long in omega arith)
-unsettled-moves l r (nine _ (inr h)) p q = absurd (let k = l .output-long in omega arith)
-unsettled-moves l r (ten _ h) p q = absurd (never r h)
-unsettled-moves {s} {a = a} l r (sought c e t) p q = (attempt-room t p, attempt-forth s a (l .short) r t p)
-unsettled-moves l r (seven c h k) p q = absurd (q refl)
-unsettled-moves {s} {memory} {output} {a} l r (frame {b} c h k) p q =
-    let i = heads-within s memory output a c h in
-    let m = frame-moves s b (decoded-frame-ready s memory output a c h k) (ranged b i) (heads-some (l .short) r h) in
-    (heads-room r h k, omega (arith, heads-forth (l .short) r h))
+      large : callersMistake number ≡ true → 8 ≤ number
+      large e =
+          either {a = eqb number 8} _ e (λ h. is 8 (omega arith) (eqb-true number 8 h))
+          (λ f. either {a = eqb number 9} _ f (λ h. is 9 (omega arith) (eqb-true number 9 h)) (λ h. is 10 (omega arith) (eqb-true number 10 h)))
+
+      go : (number ≤ 7) ⊎ ((InOrder s memory output a → ⊥) × (decodeOf s memory output a .state ≡ a))
+          → (InOrder s memory output a → ⊥) × (decodeOf s memory output a .state ≡ a)
+      go (inl l) = absurd (let k = large e in omega arith)
+      go (inr p) = p
+
+  -- and every other number is no end: reading moves on
+  pub else-it-moves-on : InOrder s memory output a → ends number ≡ false
+      → a .reader .at .0 + 16 ≤ decodeOf s memory output a .state .reader .at .0
+  else-it-moves-on c e =
+      let n = neither (eqb number 1) (eqb number 7) e in
+      call-moves (record { stream = s; memory = memory; output = output; state = a }) c (eqb-false _ _ (n .0)) (eqb-false _ _ (n .1)) .1
 
 -- ---- a run of calls on one stream, with any memories and outputs, from any state
 
@@ -141,7 +149,8 @@ module _ (s : List ℕ) (memory output : ℕ → List Float) (a : Audio) where
       pub moves-on : (k : ℕ) → (numberAt k ≡ 1 → ⊥) → (numberAt k ≡ 7 → ⊥)
           → (48 ≤ left s (stateAfter k .reader)) × (stateAfter k .reader .at .0 + 16 ≤ stateAfter (suc k) .reader .at .0)
       unfolding stateAfter
-      moves-on k = unsettled-moves (lent k) (stays-within k) (decode-table s (memory k) (output k) (stateAfter k) .holds)
+      moves-on k =
+          call-moves (record { stream = s; memory = memory k; output = output k; state = stateAfter k }) (record { room = lent k; within = stays-within k })
 
       -- so after k calls either 1 or 7 was given, or the position is 16 k or more
       Course : ℕ → Type 0

@@ -20,25 +20,25 @@ use Rattle.buffer.specs.Bits.{bitAt, bitsValue}
 use Rattle.buffer.specs.Calls.{readOf, readerAt, fieldOf}
 use Rattle.grammar.specs.Reads.{_>>=_, run}
 use Rattle.tables.specs.Standard.{limitOf, chosen, serves, sblimit, rowsOf}
-use Rattle.tables.specs.Source.{rowOf, widthOf, quantiserOf}
+use Rattle.tables.specs.Source.{sourceRowOf, widthOf, quantiserOf}
 use Rattle.tables.specs.Differences.{tableOf}
 use Rattle.side.specs.Bands.{bands, pairOf, channelsOf}
 use Rattle.side.specs.Side.{allocationOf, allocationBandOf, selectorOf, factorsOf, sideOf}
 use Rattle.codes.specs.Frame.{placeOf, copied, sampleBandOf, granuleOf, granulesOf, frameOf}
 use Rattle.codes.specs.Rows.{zeros}
-use Rattle.transform.specs.Transform.{idct, floats, transform, sumsOf, differencesOf, wovenOf, slotOf, factorsOf as rowFactors}
+use Rattle.transform.specs.Transform.{idct, floats, transform, sumsOf, differencesOf, wovenOf, slotOf, halvingFactors}
 use Rattle.window.specs.Window.{windowAt}
 use Rattle.window.specs.Output.{nought, taps, outputOf}
-use Rattle.synthesis.specs.Slots.{samplesOf}
+use Rattle.synthesis.specs.Slots.{slotSamples, memoryLength, outputLength}
 use Rattle.finite.specs.Within.{Factor}
 use Rattle.finite.specs.Sums.{weightAt, entry-factor}
-use Rattle.finite.specs.Each.{Each, Both, Written, Summed, each-output}
+use Rattle.finite.specs.Each.{Each, InBothRings, Written, Summed, each-output}
 use Rattle.frame.specs.Frame.{codesIn, granulesAt, slotsOf}
-use Rattle.audio.specs.Calls.{openMemory}
-use Rattle.audio.specs.declared.Audio.{Audio}
-use Rattle.claims.specs.Accepted.{newOutput, sample, granulesIn, accepted-leaves}
-use Rattle.claims.specs.Ring.{ring-in-place, memory-kept-long}
-use Rattle.claims.specs.Finite.{opened-each}
+use Rattle.audio.specs.Calls.{openMemory, noRoomOf}
+use Rattle.state.specs.declared.Audio.{Audio}
+use Rattle.past.specs.Calls.{newOutput, sample, granulesIn, accepted-leaves}
+use Rattle.past.specs.Ring.{ring-in-place, memory-kept-long}
+use Rattle.past.specs.Finite.{opened-each}
 use Rattle.claims.specs.Example.{headed, opening, opened-on-zeros, zeros-accepted, frame-state}
 
 -- ---- the frame's samples are all 0
@@ -47,7 +47,8 @@ abbrev silence : List (List ℤ)
 silence = replicate 12 (replicate 192 (pos 0))
 
 read-silence : granulesAt zeros (readerAt 32) (headed .format) .value ≡ silence
-unfolding granulesAt codesIn run _>>=_ frameOf sideOf bands pairOf allocationOf allocationBandOf channelsOf selectorOf factorsOf placeOf copied sampleBandOf granuleOf granulesOf fieldOf readOf bitsValue bitAt tableOf limitOf chosen serves sblimit rowsOf rowOf widthOf quantiserOf
+unfolding granulesAt codesIn run _>>=_ frameOf sideOf bands pairOf allocationOf allocationBandOf channelsOf selectorOf factorsOf placeOf copied
+    sampleBandOf granuleOf granulesOf fieldOf readOf bitsValue bitAt tableOf limitOf chosen serves sblimit rowsOf sourceRowOf widthOf quantiserOf
 read-silence = refl
 
 -- a part of a list of one value
@@ -59,7 +60,7 @@ part x (suc front) n zero h = absurd (omega arith)
 part x (suc front) n (suc all) h = part x front n all (omega arith)
 
 slots-silent : (channel n : ℕ) → channel < 2 → n < 36 → slotsOf silence channel n ≡ replicate 32 (pos 0)
-unfolding samplesOf
+unfolding slotSamples
 slots-silent channel n two l =
     rw (getD-replicate 12 (n / 3) (replicate 192 (pos 0)) [] (omega arith)) (part (pos 0) (64 * (n % 3) + 32 * channel) 32 192 (omega arith))
 
@@ -69,7 +70,7 @@ abbrev Zero : Float → Type 0
 Zero x = T (eq x nought)
 
 silent-slot : Written Zero (replicate 32 (pos 0))
-unfolding Written idct floats transform sumsOf differencesOf wovenOf slotOf rowFactors table eq ofInt ofBits add sub mul neg
+unfolding Written idct floats transform sumsOf differencesOf wovenOf slotOf halvingFactors table eq ofInt ofBits add sub mul neg
 silent-slot = below (λ (i : ℕ). eq (getD (idct (replicate 32 (pos 0))) i nan) nought) 64 tt
 
 -- ---- and their sums +0.0
@@ -90,7 +91,8 @@ plus-product b g (fin s m e) (fin t n d) h z =
     let u = n * up d * 1 in
     let v = 0 * 1 * down d in
     let none : n * up d ≡ 0 = omega (arith, eqb→eq u v (and-left (eqb u v) (Bool·beq t false || eqb u 0) z)) in
-    ap (add binary32 nought) (nothing (unlike s t) (m * up e * (n * up d)) (down e * down d) (mul-pos (down-pos e) (down-pos d)) (rw none (mul-zero (m * up e))))
+    ap (add binary32 nought) (nothing (unlike s t) (m * up e * (n * up d)) (down e * down d)
+    (mul-pos (down-pos e) (down-pos d)) (rw none (mul-zero (m * up e))))
     ∙ plus-nothing (unlike s t)
 plus-product b g nan y h z = absurd h
 plus-product b g (inf s) y h z = absurd h
@@ -110,17 +112,20 @@ module _ (ring : List Float) (silent : Each Zero ring) where
   silent-sums : Summed (λ x. x ≡ fin true 0 (pos 0)) ring
   unfolding Summed outputOf div
   silent-sums p j hp hj =
-      rw (taps-silent (512 - p / 2 + j) (p % 128 / 2 + j) (omega arith) 8 (lit≤ tt), taps-silent (544 - p / 2 + j) (96 - p % 128 / 2 + j) (omega arith) 8 (lit≤ tt)) refl
+      rw (
+        taps-silent (512 - p / 2 + j) (p % 128 / 2 + j) (omega arith) 8 (lit≤ tt),
+        taps-silent (544 - p / 2 + j) (96 - p % 128 / 2 + j) (omega arith) 8 (lit≤ tt),
+      ) refl
 
 -- ---- the frame
 
-module _ (m o : List Float) (long : 2048 ≤ length m) (room : 2304 ≤ length o) where
+module _ (m o : List Float) (long : memoryLength ≤ length m) (room : outputLength ≤ length o) where
   granules-silent : granulesIn (opening m o) ≡ silence
   granules-silent = ap (λ (a : Audio). granulesAt zeros (a .reader) (a .format) .value) (frame-state m o long room) ∙ read-silence
 
-  memory-zero : Both Zero (opening m o .memory)
-  unfolding openMemory eq
-  memory-zero = simp (le-ltb _ _ long) (opened-each Zero tt (drop 2048 m))
+  memory-zero : InBothRings Zero (opening m o .memory)
+  unfolding openMemory noRoomOf eq
+  memory-zero = simp (le-ltb _ _ long) (opened-each Zero tt (drop memoryLength m))
 
   slots-zero : (channel : ℕ) → channel < 2 → (n : ℕ) → n < 36 → Written Zero (slotsOf (granulesIn (opening m o)) channel n)
   slots-zero channel two n l = rw (granules-silent, slots-silent channel n two l) silent-slot

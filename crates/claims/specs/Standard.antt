@@ -9,6 +9,7 @@ use mathlib.Core.Bool.{false}
 use lib.Dec.{eqb}
 use lib.ListN.{length}
 use lib.IntN.{ℤ}
+use Rattle.buffer.specs.Bits.{longestStream}
 use Rattle.buffer.specs.Calls.{readerAt}
 use Rattle.buffer.specs.declared.Reader.{Reader}
 use Rattle.grammar.specs.Reads.{Ran, ran, run}
@@ -19,12 +20,12 @@ use Rattle.header.specs.declared.Attempt.{Attempt}
 use Rattle.header.specs.declared.Header.the-variants.{Accepted}
 use Rattle.header.specs.declared.Format.{Format}
 use Rattle.side.specs.Side.{cutOf}
-use Rattle.standard.specs.Layer2.{Fields, audioData}
+use Rattle.standard.specs.Layer2.{AudioFields, audioData}
 use Rattle.standard.specs.Made.{samplesBy01}
-use Rattle.standard.specs.Headers.{Fields as HeaderFields, format, dataSize, the-standards-header}
+use Rattle.standard.specs.Headers.{HeaderFields, format, standardSize, the-standards-header}
 use Rattle.standard.specs.Alike.{Unlisted, the-standards-frame}
 use Rattle.frame.specs.Frame.{codesIn, granulesAt}
-use Rattle.claims.specs.Accepted.{Call, frameState, granulesIn, endOf, Accepts}
+use Rattle.past.specs.Calls.{Call, frameState, granulesIn, endOf, Accepts}
 
 -- the table that the standard says for a format, and the audio data that it lists
 abbrev pub tableFor : Format → Table
@@ -33,7 +34,7 @@ tableFor f = chosen (eqb (f .mode) 3) (f .bitrate) (f .samplerate)
 abbrev pub boundIn : Format → ℕ
 boundIn f = cutOf (f .bound) (sblimit (tableFor f))
 
-abbrev pub standardsReading : List ℕ → Reader → Format → Ran Fields
+abbrev pub standardsReading : List ℕ → Reader → Format → Ran AudioFields
 standardsReading s r f = run (audioData (eqb (f .mode) 3) (tableFor f) (boundIn f)) s r
 
 -- the samples are 01's formulas over the standard's fields, and the reading ends at the standard's bit
@@ -42,16 +43,22 @@ pub reads-as-the-standard : (s : List ℕ) (r : Reader) (f : Format) → let x =
 unfolding granulesAt codesIn tableOf limitOf
 reads-as-the-standard s r f = the-standards-frame (eqb (f .mode) 3) (tableFor f) (boundIn f) s r
 
+-- a header of the standard is accepted, with its fields and its frame size
+pub standard-is-accepted : (s : List ℕ) (byte : ℕ) → length s ≤ longestStream → 8 * byte + 48 ≤ 8 * length s → HeaderFields s (byte * 8)
+    → (known : Format) → let f = format s byte (known .reading) in differs known (f .bitrate) (f .samplerate) (f .mode) ≡ false
+    → headerOf s (readerAt (byte * 8)) known .header ≡ Accepted f (standardSize s byte)
+standard-is-accepted s byte short room h known same = ap (λ (a : Attempt). a .header) (the-standards-header s byte short room h known same)
+
 -- a header of the standard, and the audio data behind it
-pub the-standards-stream : (s : List ℕ) (byte : ℕ) → length s ≤ 16777216 → 8 * byte + 48 ≤ 8 * length s → HeaderFields s (byte * 8) → (known : Format)
-    → differs known (format s byte .bitrate) (format s byte .samplerate) (format s byte .mode) ≡ false
+pub the-standards-stream : (s : List ℕ) (byte : ℕ) → length s ≤ longestStream → 8 * byte + 48 ≤ 8 * length s → HeaderFields s (byte * 8) → (known : Format)
+    → differs known (format s byte (known .reading) .bitrate) (format s byte (known .reading) .samplerate) (format s byte (known .reading) .mode) ≡ false
     → let h = headerOf s (readerAt (byte * 8)) known in
-    let f = format s byte in
+    let f = format s byte (known .reading) in
     let x = standardsReading s (h .next) f in
     Unlisted (tableFor f) (x .value .allocation)
-    → (h .header ≡ Accepted f (dataSize s byte)) × (granulesAt s (h .next) f ≡ ran (samplesBy01 (tableFor f) (boundIn f) (x .value)) (x .next))
+    → (h .header ≡ Accepted f (standardSize s byte)) × (granulesAt s (h .next) f ≡ ran (samplesBy01 (tableFor f) (boundIn f) (x .value)) (x .next))
 the-standards-stream s byte short room h known same clean =
-    (ap (λ (a : Attempt). a .header) (the-standards-header s byte short room h known same), reads-as-the-standard s _ (format s byte) clean)
+    (standard-is-accepted s byte short room h known same, reads-as-the-standard s _ (format s byte (known .reading)) clean)
 
 -- so it is for every call that accepts a frame
 pub accepted-as-the-standard : (c : Call) → Accepts c → let f = frameState c .format in let x = standardsReading (c .stream) (frameState c .reader) f in

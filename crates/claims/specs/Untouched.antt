@@ -10,12 +10,15 @@ use lib.Ieee.{Float, fin, nan}
 use lib.ListN.{length, getD, drop, List·getD-append}
 use lib.Seq.{getD-append-add, getD-drop}
 use borrow.Author.Tests.{lt-ltb, le-ltb}
-use Rattle.ground.specs.Table.{length-table, at-table}
-use Rattle.audio.specs.Before.{readyOf}
-use Rattle.audio.specs.Calls.{answering, remembering, sounding, afterOf, framedOf, decodeOf, decodeMemory, decodeOutput, blank, openMemory}
-use Rattle.audio.specs.declared.Audio.{Audio}
-use Rattle.audio.specs.declared.Heading.{Heading}
-use Rattle.audio.specs.declared.Heading.the-variants.{Known, Refused}
+use Rattle.ground.specs.Table.{at-table}
+use Rattle.synthesis.specs.Slots.{memoryLength}
+use Rattle.buffer.specs.Bits.{longestStream}
+use Rattle.audio.specs.CallsLaws.{blank-length}
+use Rattle.verdict.specs.Verdict.{readyOf}
+use Rattle.audio.specs.Calls.{answering, remembering, sounding, afterOf, framedOf, decodeOf, decodeMemory, decodeOutput, blank, openMemory, noRoomOf}
+use Rattle.state.specs.declared.Audio.{Audio}
+use Rattle.verdict.specs.declared.Heading.{Heading}
+use Rattle.verdict.specs.declared.Heading.the-variants.{Known, Refused}
 use Rattle.audio.specs.declared.Answer.the-variants.{Refused as AnswerRefused}
 
 -- every number but a decoded frame's 0 leaves memory and output as they were
@@ -32,34 +35,30 @@ module _ (s : List ℕ) (memory output : List Float) (a : Audio) where
   refused-call-leaves-all n e =
       let r = readyOf s (length memory) (length output) a in by-verdict (r .answer) (r .state) n e
 
-pub blank-length : length blank ≡ 2048
-unfolding blank
-blank-length = length-table 2048 (λ _. fin false 0 (pos 0))
-
 -- an opening that gives 8 or 9 leaves the memory
 module _ (s : List ℕ) (memory : List Float) where
-  pub too-long-opening-leaves-memory : 16777216 < length s → openMemory s memory ≡ memory
-  unfolding openMemory
+  pub too-long-opening-leaves-memory : longestStream < length s → openMemory s memory ≡ memory
+  unfolding openMemory noRoomOf
   too-long-opening-leaves-memory l = simp (lt-ltb _ _ l)
 
-  pub too-small-opening-leaves-memory : length s ≤ 16777216 → length memory < 2048 → openMemory s memory ≡ memory
-  unfolding openMemory
+  pub too-small-opening-leaves-memory : length s ≤ longestStream → length memory < memoryLength → openMemory s memory ≡ memory
+  unfolding openMemory noRoomOf
   too-small-opening-leaves-memory l m = simp (le-ltb _ _ l, lt-ltb _ _ m)
 
   -- any other clears the first 2,048 values to +0.0, and no other value
-  module _ (short : length s ≤ 16777216) (long : 2048 ≤ length memory) where
-    opened : openMemory s memory ≡ blank ++ drop 2048 memory
-    unfolding openMemory
+  module _ (short : length s ≤ longestStream) (long : memoryLength ≤ length memory) where
+    opened : openMemory s memory ≡ blank ++ drop memoryLength memory
+    unfolding openMemory noRoomOf
     opened = simp (le-ltb _ _ short, le-ltb _ _ long)
 
-    pub opening-clears : (i : ℕ) → i < 2048 → getD (openMemory s memory) i nan ≡ fin false 0 (pos 0)
+    pub opening-clears : (i : ℕ) → i < memoryLength → getD (openMemory s memory) i nan ≡ fin false 0 (pos 0)
     unfolding blank
     opening-clears i l =
-        rw opened (List·getD-append blank (drop 2048 memory) nan i (rw blank-length l) ∙ at-table nan 2048 (λ _. fin false 0 (pos 0)) i l)
+        rw opened (List·getD-append blank (drop memoryLength memory) nan i (rw blank-length l) ∙ at-table nan memoryLength (λ _. fin false 0 (pos 0)) i l)
 
-    pub opening-keeps-the-rest : (i : ℕ) → getD (openMemory s memory) (2048 + i) nan ≡ getD memory (2048 + i) nan
+    pub opening-keeps-the-rest : (i : ℕ) → getD (openMemory s memory) (memoryLength + i) nan ≡ getD memory (memoryLength + i) nan
     opening-keeps-the-rest i =
         rw opened
-        (ap (λ (k : ℕ). getD (blank ++ drop 2048 memory) (k + i) nan) (sym blank-length)
-        ∙ getD-append-add blank (drop 2048 memory) i nan
-        ∙ getD-drop 2048 memory i nan)
+        (ap (λ (k : ℕ). getD (blank ++ drop memoryLength memory) (k + i) nan) (sym blank-length)
+        ∙ getD-append-add blank (drop memoryLength memory) i nan
+        ∙ getD-drop memoryLength memory i nan)

@@ -9,18 +9,20 @@ use lib.IntN.{ℤ}
 use lib.Ieee.{Float, nan, inf, fin, up, down}
 use lib.ListN.{length, getD, take, drop, length-append, List·getD-append}
 use lib.Seq.{getD-append-add}
+use Rattle.buffer.specs.Bits.{longestStream}
+use Rattle.synthesis.specs.Slots.{outputLength}
 use Rattle.riff.specs.Level.{halfUp, held, levelOf, bits16, pcmOf, length-pcm, low-byte, high-byte}
-use Rattle.riff.specs.Header.{headerOf, valueOf, length-header, le32-back, lengths-exact}
+use Rattle.riff.specs.Header.{waveHeaderOf, valueOf, length-header, le32-back, lengths-exact}
 use Rattle.finite.specs.Within.{Within}
 use Rattle.clip.specs.Frames.{Heard, clipOf, rateIn}
 use Rattle.clip.specs.Turns.{few-in-clip}
 use Rattle.clip.specs.Rates.{clip-rate-small}
 use Rattle.clip.specs.File.{frameParts, partsOf, joined, fileOf}
-use Rattle.claims.specs.Heard.{Every, frame-length, one-rate, heard-finite}
+use Rattle.heard.specs.Heard.{Every, frame-length, one-rate, heard-finite}
 
 -- ---- lengths
 
-joined-length : (xs : List Heard) → Every (λ x. length (x .samples) ≡ 2304) xs → length (joined (frameParts xs)) ≡ 4608 * length xs
+joined-length : (xs : List Heard) → Every (λ x. length (x .samples) ≡ outputLength) xs → length (joined (frameParts xs)) ≡ 4608 * length xs
 unfolding joined frameParts
 joined-length [] e = refl
 joined-length (x ∷ xs) e =
@@ -32,14 +34,14 @@ joined-length (x ∷ xs) e =
 pub file-length : (s : List ℕ) → length (fileOf s) ≡ 44 + 4608 * length (clipOf s)
 unfolding fileOf partsOf joined
 file-length s =
-    let header = headerOf (length (clipOf s)) (rateIn (clipOf s)) in
+    let header = waveHeaderOf (length (clipOf s)) (rateIn (clipOf s)) in
     let frames = joined (frameParts (clipOf s)) in
     omega (arith, length-append header frames, length-header (length (clipOf s)) (rateIn (clipOf s)), joined-length (clipOf s) (frame-length s))
 
 -- the file's first 44 bytes are the header's
-in-file : (frames rate : ℕ) (more : List ℕ) → let header = headerOf frames rate in
+in-file : (frames rate : ℕ) (more : List ℕ) → let header = waveHeaderOf frames rate in
     (take 4 (drop 4 (header ++ more)) ≡ take 4 (drop 4 header)) × (take 4 (drop 40 (header ++ more)) ≡ take 4 (drop 40 header))
-unfolding headerOf
+unfolding waveHeaderOf
 in-file frames rate more = (refl, refl)
 
 -- "Lengths in the header are exact": of what follows the first eight bytes, and of what follows the 44
@@ -59,7 +61,7 @@ file-lengths-exact s short =
 
 -- bytes 24 to 27, samples a second, are those of every frame
 pub file-rate : (s : List ℕ) (i : ℕ) (d : Heard) → i < length (clipOf s) → valueOf (take 4 (drop 24 (fileOf s))) ≡ getD (clipOf s) i d .rate
-unfolding fileOf partsOf joined headerOf
+unfolding fileOf partsOf joined waveHeaderOf
 file-rate s i d l = le32-back (rateIn (clipOf s)) (omega (arith, clip-rate-small s)) ∙ sym (one-rate s i d l)
 
 -- ---- the samples
@@ -78,7 +80,7 @@ by-value n nan h = absurd h
 by-value n (inf s) h = absurd h
 by-value n (fin s m e) h = record { sign = s; digits = m; exponent = e; is = refl; level = refl }
 
-bytes-at : (xs : List Heard) → Every (λ x. length (x .samples) ≡ 2304) xs → (i : ℕ) (d : Heard) → i < length xs → (k : ℕ) → k < 4608
+bytes-at : (xs : List Heard) → Every (λ x. length (x .samples) ≡ outputLength) xs → (i : ℕ) (d : Heard) → i < length xs → (k : ℕ) → k < 4608
     → getD (joined (frameParts xs)) (4608 * i + k) 0 ≡ getD (pcmOf (getD xs i d .samples)) k 0
 unfolding joined frameParts
 bytes-at [] e i d l k h = absurd (omega arith)
@@ -95,13 +97,13 @@ module _ (s : List ℕ) (i : ℕ) (d : Heard) (l : i < length (clipOf s)) where
   file-at : (k : ℕ) → k < 4608 → getD (fileOf s) (44 + (4608 * i + k)) 0 ≡ getD (pcmOf (getD (clipOf s) i d .samples)) k 0
   unfolding fileOf partsOf joined
   file-at k h =
-      let header = headerOf (length (clipOf s)) (rateIn (clipOf s)) in
+      let header = waveHeaderOf (length (clipOf s)) (rateIn (clipOf s)) in
       let frames = joined (frameParts (clipOf s)) in
       ap (λ (n : ℕ). getD (header ++ frames) (n + (4608 * i + k)) 0) (sym (length-header (length (clipOf s)) (rateIn (clipOf s))))
       ∙ getD-append-add header frames (4608 * i + k) 0
       ∙ bytes-at (clipOf s) (frame-length s) i d l k h
 
-  module _ (j : ℕ) (h : j < 2304) where
+  module _ (j : ℕ) (h : j < outputLength) where
     abbrev sample : Float
     sample = getD (getD (clipOf s) i d .samples) j nan
 
@@ -114,12 +116,12 @@ module _ (s : List ℕ) (i : ℕ) (d : Heard) (l : i < length (clipOf s)) where
         (file-at (2 * j) (omega arith) ∙ low-byte xs j many, file-at (2 * j + 1) (omega arith) ∙ high-byte xs j many)
 
     -- "A sample is multiplied by 32768, ..": it has a value, so what riff says of a NaN or an infinity is never heard
-    pub no-nan-is-written : length s ≤ 16777216 → Leveled sample
+    pub no-nan-is-written : length s ≤ longestStream → Leveled sample
     no-nan-is-written short = by-value 8259553 sample (heard-finite s short i d l j h)
 
 -- ---- no frame
 
 -- "A stream with no frame gives a file with no samples and rate 44100."
-pub no-frame : (s : List ℕ) → clipOf s ≡ [] → fileOf s ≡ headerOf 0 44100
-unfolding fileOf partsOf joined frameParts headerOf
+pub no-frame : (s : List ℕ) → clipOf s ≡ [] → fileOf s ≡ waveHeaderOf 0 44100
+unfolding fileOf partsOf joined frameParts waveHeaderOf
 no-frame s e = rw e

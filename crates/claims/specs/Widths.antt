@@ -10,6 +10,7 @@ use lib.Dec.{eqb}
 use lib.IntN.{ℤ}
 use lib.ListN.{length, replicate}
 use borrow.Author.Tests.{le-ltb}
+use Rattle.buffer.specs.Bits.{farthestBit}
 use Rattle.buffer.specs.Calls.{alignOf}
 use Rattle.buffer.specs.declared.Reader.{Reader}
 use Rattle.grammar.specs.Reads.{Reads, done, Ran, run, called}
@@ -23,7 +24,7 @@ use Rattle.codes.specs.Widths.{frame-narrow}
 use Rattle.frame.specs.Frame.{limitIn, codesIn, granulesAt}
 use Rattle.audio.specs.Calls.{alignedOf, afterOf, framedOf}
 use Rattle.audio.specs.declared.Decoded.{Decoded}
-use Rattle.claims.specs.Accepted.{Call, outcome, frameState, Accepts, endOf, firstBit, bitsCalled, accepted-leaves, accepted-bits}
+use Rattle.past.specs.Calls.{Call, outcome, frameState, Accepts, endOf, firstBit, bitsCalled, accepted-leaves, accepted-bits}
 
 codes-narrow : (f : Format) → Narrow (codesIn f)
 unfolding codesIn
@@ -47,7 +48,7 @@ module _ {c : Call} (ok : Accepts c) where
   unfolding framedOf afterOf alignedOf alignOf
   aligned-after-the-bits =
       let d = accepted-leaves c ok in
-      let near : endOf c .at .0 ≤ 134217736 = omega (arith, moves, d .goes .ready .short) in
+      let near : endOf c .at .0 ≤ farthestBit = omega (arith, moves, d .goes .ready .short) in
       ap (λ (x : Decoded). x .state .reader .at .0) (d .gives)
       ∙ simp (le-ltb _ _ (d .goes .ready .short), le-ltb _ _ near) (ap (λ (n : ℕ). (n + 7) / 8 * 8) bits-are-the-movement)
 

@@ -7,7 +7,7 @@ use native.Mathlib.Numerals.{add-one}
 use mathlib.Core.List.{List, [], _∷_, _++_}
 use lib.ListN.{length, getD}
 use Rattle.clip.specs.Frames.{Heard, clipOf, rateIn}
-use Rattle.riff.specs.Header.{headerOf}
+use Rattle.riff.specs.Header.{waveHeaderOf}
 use Rattle.riff.specs.Level.{pcmOf}
 
 -- a part for each frame, in order
@@ -16,7 +16,7 @@ frameParts [] = []
 frameParts (x ∷ more) = pcmOf (x .samples) ∷ frameParts more
 
 unfoldable pub partsOf : List ℕ → List (List ℕ)
-partsOf s = headerOf (length (clipOf s)) (rateIn (clipOf s)) ∷ frameParts (clipOf s)
+partsOf s = waveHeaderOf (length (clipOf s)) (rateIn (clipOf s)) ∷ frameParts (clipOf s)
 
 -- one after the other
 unfoldable pub joined : List (List ℕ) → List ℕ
@@ -27,7 +27,7 @@ unfoldable pub fileOf : List ℕ → List ℕ
 fileOf s = joined (partsOf s)
 
 -- what the program must show of each part that it writes: the first is the header, and the others are the frames
-pub header-part : (s : List ℕ) → (0 < length (partsOf s)) × (headerOf (length (clipOf s)) (rateIn (clipOf s)) ≡ getD (partsOf s) 0 [])
+pub header-part : (s : List ℕ) → (0 < length (partsOf s)) × (waveHeaderOf (length (clipOf s)) (rateIn (clipOf s)) ≡ getD (partsOf s) 0 [])
 unfolding partsOf
 header-part s = (omega arith, refl)
 

@@ -11,15 +11,17 @@ use lib.ListN.{length, drop, getD, length-drop}
 use lib.Seq.{drop-cons}
 use borrow.Author.Tests.{lt-ltb, le-ltb}
 use Rattle.ground.specs.Tests.{by-test}
-use Rattle.audio.specs.Calls.{openMemory}
-use Rattle.audio.specs.declared.Audio.{Audio}
-use Rattle.listing.specs.Lines.{nextOf}
-use Rattle.listing.specs.declared.Line.{Line}
-use Rattle.listing.specs.declared.Line.the-variants.{Frame, Refused, End}
-use Rattle.clip.specs.Frames.{Heard, hearing, heardOf, quiet, openedOf, clipOf, Turn, turning, turnOf}
+use Rattle.synthesis.specs.Slots.{memoryLength, outputLength}
+use Rattle.audio.specs.Calls.{openMemory, decodeOf}
+use Rattle.audio.specs.Numbers.{ends}
+use Rattle.state.specs.declared.Audio.{Audio}
+use Rattle.audio.specs.declared.Answer.{Answer}
+use Rattle.audio.specs.declared.Answer.the-variants.{Frame, Refused}
+use Rattle.clip.specs.Frames.{Heard, hearing, heardOf, quiet, openedOf, clipOf, Turn, turn, turning, turnOf}
 use Rattle.clip.specs.declared.Playing.{Playing}
 use Rattle.clip.specs.declared.Reached.{Reached}
 
+-- the frame of a turn that found one
 abbrev pub foundIn : Turn → Heard
 foundIn t = record { rate = t .reached .rate; samples = t .output }
 
@@ -31,19 +33,22 @@ behind s t = let p = t .reached .playing in heardOf (p .calls) s (t .memory) (t 
 unfoldable pub heardBy : List ℕ → Turn → List Heard
 heardBy s t = cond (t .reached .frame) (foundIn t ∷ behind s t) []
 
-by-line : (line : Line) (s : List ℕ) (a : Audio) (calls : ℕ) (m o : List Float) (t : Turn) → heardOf calls s m o a ≡ heardBy s t
-    → hearing line o (heardOf calls s m o a) ≡ heardBy s (turning line a calls m o t)
+by-answer : (x : Answer) (s : List ℕ) (a : Audio) (calls : ℕ) (m o : List Float) (t : Turn) → heardOf calls s m o a ≡ heardBy s t
+    → hearing x a o (heardOf calls s m o a) ≡ heardBy s (turning x a calls m o t)
 unfolding heardBy
-by-line (Frame number at rate kbps mode bits time) s a calls m o t e = refl
-by-line (Refused number at) s a calls m o t e = e
-by-line (End number at) s a calls m o t e = refl
+by-answer (Frame time bits) s a calls m o t e = refl
+by-answer (Refused n) s a calls m o t e = go (ends n)
+  where
+    go : (last : Bool) → cond last [] (heardOf calls s m o a) ≡ heardBy s (cond last (turn false 0 a calls m o) t)
+    go true = refl
+    go false = e
 
 pub turn-by-turn : (calls : ℕ) (s : List ℕ) (memory output : List Float) (a : Audio)
     → heardOf calls s memory output a ≡ heardBy s (turnOf calls s memory output a)
 unfolding heardOf turnOf heardBy
 turn-by-turn zero s memory output a = refl
 turn-by-turn (suc calls) s memory output a =
-    let x = nextOf s memory output a in by-line (x .line) s (x .state) calls _ _ _ (turn-by-turn calls s _ _ (x .state))
+    let x = decodeOf s memory output a in by-answer (x .answer) s (x .state) calls _ _ _ (turn-by-turn calls s _ _ (x .state))
 
 -- a turn by what `next` gives, part by part
 pub heard-next : (calls : ℕ) (s : List ℕ) (memory output : List Float) (a : Audio) (r : Reached) (m o : List Float) → let t = turnOf calls s memory output a in
@@ -51,15 +56,15 @@ pub heard-next : (calls : ℕ) (s : List ℕ) (memory output : List Float) (a : 
 heard-next calls s memory output a r m o e f g = turn-by-turn calls s memory output a ∙ rw (e, f, g)
 
 -- no more frames than calls
-one-at-most : (line : Line) (o : List Float) (more : List Heard) (calls : ℕ) → length more ≤ calls → length (hearing line o more) ≤ suc calls
-one-at-most (Frame number at rate kbps mode bits time) o more calls l = omega arith
-one-at-most (Refused number at) o more calls l = omega arith
-one-at-most (End number at) o more calls l = omega arith
+one-at-most : (x : Answer) (a : Audio) (o : List Float) (more : List Heard) (calls : ℕ) → length more ≤ calls → length (hearing x a o more) ≤ suc calls
+one-at-most (Frame time bits) a o more calls l = omega arith
+one-at-most (Refused n) a o more calls l =
+    by-test (λ (xs : List Heard). length xs ≤ suc calls) (ends n) _ _ (λ _. omega arith) (λ _. omega arith)
 
 few : (calls : ℕ) (s : List ℕ) (memory output : List Float) (a : Audio) → length (heardOf calls s memory output a) ≤ calls
 unfolding heardOf
 few zero s memory output a = omega arith
-few (suc calls) s memory output a = let x = nextOf s memory output a in one-at-most (x .line) _ _ calls (few calls s _ _ (x .state))
+few (suc calls) s memory output a = let x = decodeOf s memory output a in one-at-most (x .answer) (x .state) _ _ calls (few calls s _ _ (x .state))
 
 pub few-in-clip : (s : List ℕ) → length (clipOf s) ≤ length s / 2 + 2
 unfolding clipOf
@@ -67,8 +72,8 @@ few-in-clip s = few (length s / 2 + 2) s _ _ _
 
 -- ---- for the passes: the opening, and what a turn from it, or from anywhere, says of what is heard there
 
-pub begins : (s : List ℕ) (p : Playing) (m : List Float) → p ≡ openedOf s (quiet 2048) → m ≡ openMemory s (quiet 2048)
-    → clipOf s ≡ heardOf (p .calls) s m (quiet 2304) (p .state)
+pub begins : (s : List ℕ) (p : Playing) (m : List Float) → p ≡ openedOf s (quiet memoryLength) → m ≡ openMemory s (quiet memoryLength)
+    → clipOf s ≡ heardOf (p .calls) s m (quiet outputLength) (p .state)
 unfolding clipOf
 begins s p m e f = rw (e, f)
 
@@ -98,7 +103,7 @@ found-at s xs i d t l e =
 
 -- the first from the opening, each other from where the one before it ended
 unfoldable pub turnAt : List ℕ → ℕ → Turn
-turnAt s zero = let p = openedOf s (quiet 2048) in turnOf (p .calls) s (openMemory s (quiet 2048)) (quiet 2304) (p .state)
+turnAt s zero = let p = openedOf s (quiet memoryLength) in turnOf (p .calls) s (openMemory s (quiet memoryLength)) (quiet outputLength) (p .state)
 turnAt s (suc i) = let t = turnAt s i in let p = t .reached .playing in turnOf (p .calls) s (t .memory) (t .output) (p .state)
 
 from-turn : (s : List ℕ) (i : ℕ) → i ≤ length (clipOf s) → drop i (clipOf s) ≡ heardBy s (turnAt s i)

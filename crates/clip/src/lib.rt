@@ -1,6 +1,6 @@
 // A clip frame by frame: the decoder's calls until 1 or 7, with the refusals between passed over.
-use audio::Audio;
-use listing::Line;
+use audio::Answer;
+use state::Audio;
 ghost use mathlib.Core.Path.{_≡_};
 ghost use Rattle.audio.specs.Calls.{openMemory};
 ghost use Rattle.clip.specs.Frames.{countOf, turnOf, openedOf};
@@ -28,7 +28,8 @@ pub fn start(stream: &[u8], memory: &mut [f32]) -> Playing
     ensures { λ r. ⌜ r ≡ openedOf (now (stream .entry)) (now (memory .entry)) ⌝ }
     ensures { λ _. ⌜ now (memory .exit) ≡ openMemory (now (stream .entry)) (now (memory .entry)) ⌝ }
 {
-    let opened = Audio::new(stream, memory);
+    let reading = header::plain();
+    let opened = audio::new(stream, memory, reading);
     let state = opened.state;
     let calls = stream.len() / 2 + 2;
     Playing { state, calls }
@@ -44,19 +45,23 @@ pub fn next(playing: Playing, stream: &[u8], memory: &mut [f32], output: &mut [f
     let mut calls = playing.calls;
     while 0 < calls {
         calls -= 1;
-        let listed = listing::next_line(state, stream, memory, output);
-        state = listed.state;
-        let line = listed.line;
-        match line {
-            Line::Frame { rate, .. } => {
+        let decoded = audio::decode(state, stream, memory, output);
+        state = decoded.state;
+        let answer = decoded.answer;
+        match answer {
+            Answer::Frame { .. } => {
+                let format = state.format;
                 return Reached {
                     frame: true,
-                    rate,
+                    rate: tables::rate(format.samplerate),
                     playing: Playing { state, calls },
                 };
             }
-            Line::Refused { .. } => {}
-            Line::End { .. } => break,
+            Answer::Refused(number) => {
+                if audio::ends(number) {
+                    break;
+                }
+            }
         }
     }
     Reached {
@@ -70,8 +75,8 @@ pub fn next(playing: Playing, stream: &[u8], memory: &mut [f32], output: &mut [f
 pub fn count(stream: &[u8]) -> Counted
     ensures { λ r. ⌜ r ≡ countOf (now (stream .entry)) ⌝ }
 {
-    let mut memory = [0.0f32; 2048];
-    let mut output = [0.0f32; 2304];
+    let mut memory = [0.0f32; synthesis::MEMORY];
+    let mut output = [0.0f32; synthesis::OUTPUT];
     let opened = start(stream, &mut memory);
     let mut at = next(opened, stream, &mut memory, &mut output);
     let rate = if at.frame { at.rate } else { 44100 };

@@ -8,8 +8,8 @@ use lib.Ieee.{Float, fin, binary64, ofInt, div, isNan, toBits}
 use Rattle.tables.specs.Standard.{rateOf}
 
 -- code 3 means no header yet, "and then frames, pending size and time are 0"
-unfoldable pub startOf : ℕ → ℕ → Float
-startOf frames samplerate =
+unfoldable pub startTimeOf : ℕ → ℕ → Float
+startTimeOf frames samplerate =
     cond (leb 3 samplerate) (fin false 0 (pos 0))
     (div binary64 (ofInt binary64 (pos (frames * 1152))) (ofInt binary64 (pos (rateOf samplerate))))
 
@@ -18,4 +18,4 @@ unfoldable pub sameBits : Float → Float → Bool
 sameBits x y = not (isNan x) && eqb (toBits binary64 x) (toBits binary64 y)
 
 unfoldable pub onTime : Float → ℕ → ℕ → Bool
-onTime x frames samplerate = sameBits x (startOf frames samplerate)
+onTime x frames samplerate = sameBits x (startTimeOf frames samplerate)

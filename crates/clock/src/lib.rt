@@ -3,11 +3,11 @@ ghost use mathlib.Core.Path.{_≡_};
 ghost use mathlib.Core.Bool.{not};
 ghost use lib.Dec.{T};
 ghost use lib.Ieee.{isNan};
-ghost use Rattle.clock.specs.Clock.{startOf, sameBits, onTime};
+ghost use Rattle.clock.specs.Clock.{startTimeOf, sameBits, onTime};
 
 // +0.0 before any header, which is sample-rate code 3.
 pub fn start_time(frames: u32, samplerate: usize) -> f64
-    ensures { λ r. ⌜ r ≡ startOf frames samplerate ⌝ }
+    ensures { λ r. ⌜ r ≡ startTimeOf frames samplerate ⌝ }
 {
     if 3 <= samplerate {
         return 0.0;

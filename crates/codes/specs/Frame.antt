@@ -24,14 +24,14 @@ codesOf q =
     cond (groupedOf q) (ask (codeBitsOf q) λ v. done (digitsOf (levelsOf q) v)) (singlesOf (codeBitsOf q))
 
 -- the three samples of a place
-unfoldable pub samplesOf : ℕ → ℕ → ℕ → List ℤ → Reads (List ℤ)
-samplesOf q factor place xs =
+unfoldable pub threeSamplesOf : ℕ → ℕ → ℕ → List ℤ → Reads (List ℤ)
+threeSamplesOf q factor place xs =
     let sample : ℕ → ℤ = λ code. sampleOf (levelsOf q) code factor in
     codesOf q >>= λ c. done (three place (sample (c .first)) (sample (c .second)) (sample (c .third)) xs)
 
 unfoldable pub placeOf : Side → ℕ → ℕ → List ℤ → Reads (List ℤ)
 placeOf side part =
-    allocatedOf (side .quant) (λ place. samplesOf (getD (side .quant) place 0) (getD (side .factor) (part * 64 + place) 0) place)
+    allocatedOf (side .quant) (λ place. threeSamplesOf (getD (side .quant) place 0) (getD (side .factor) (part * 64 + place) 0) place)
 
 -- "from the bound up both channels take the left channel's finished sample"
 unfoldable pub copied : ℕ → List ℤ → List ℤ

@@ -10,7 +10,7 @@ use Rattle.buffer.specs.Bits.{bitAt, bitsValue}
 use Rattle.buffer.specs.Calls.{readOf, readerAt, fieldOf}
 use Rattle.grammar.specs.Reads.{Reads, _>>=_, called}
 use Rattle.tables.specs.Standard.{limitOf, chosen, serves, sblimit, rowsOf}
-use Rattle.tables.specs.Source.{rowOf, widthOf, quantiserOf}
+use Rattle.tables.specs.Source.{sourceRowOf, widthOf, quantiserOf}
 use Rattle.tables.specs.Differences.{tableOf}
 use Rattle.side.specs.Bands.{bands, pairOf, channelsOf}
 use Rattle.side.specs.Side.{cutOf, allocationOf, allocationBandOf, selectorOf, factorsOf, sideOf}
@@ -32,5 +32,6 @@ abbrev pub zeroFrame : Reads (List (List ℤ))
 zeroFrame = frameOf false (tableOf 0 9 0) (cutOf 32 (limitOf 0 9 0)) (limitOf 0 9 0)
 
 pub row-188 : called zeroFrame zeros (readerAt 32) ≡ 188
-unfolding called _>>=_ frameOf sideOf bands pairOf allocationOf allocationBandOf channelsOf selectorOf factorsOf placeOf copied sampleBandOf granuleOf granulesOf fieldOf readOf bitsValue bitAt tableOf limitOf chosen serves sblimit rowsOf rowOf widthOf quantiserOf
+unfolding called _>>=_ frameOf sideOf bands pairOf allocationOf allocationBandOf channelsOf selectorOf factorsOf placeOf copied sampleBandOf granuleOf
+    granulesOf fieldOf readOf bitsValue bitAt tableOf limitOf chosen serves sblimit rowsOf sourceRowOf widthOf quantiserOf
 row-188 = refl

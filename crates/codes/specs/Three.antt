@@ -12,7 +12,7 @@ use lib.Pow.{high, low}
 use Rattle.ground.specs.Tests.{by-test}
 use Rattle.buffer.specs.Bits.{bitsValue}
 use Rattle.buffer.specs.Calls.{orZero, readOf, fieldOf, readerAt, left}
-use Rattle.buffer.specs.Laws.{split, below, Enough, field-whole}
+use Rattle.buffer.specs.Laws.{split, bits-below, Enough, field-whole}
 use Rattle.buffer.specs.declared.Reader.{Reader}
 use Rattle.buffer.specs.declared.Field.{Field}
 use Rattle.buffer.specs.declared.Read.{Read}
@@ -21,8 +21,8 @@ use Rattle.samples.specs.declared.Three.{Three}
 use Rattle.codes.specs.Frame.{singlesOf}
 
 -- the upper, middle and lower of three numbers of so many bits in one
-abbrev pub cutOf : ℕ → ℕ → Three
-cutOf value bits = record { first = value / 2 ^ bits / 2 ^ bits; second = value / 2 ^ bits % 2 ^ bits; third = value % 2 ^ bits }
+abbrev pub cutInThree : ℕ → ℕ → Three
+cutInThree value bits = record { first = value / 2 ^ bits / 2 ^ bits; second = value / 2 ^ bits % 2 ^ bits; third = value % 2 ^ bits }
 
 -- a field that moves has all its bits
 pub moved-enough : (s : List ℕ) (r : Reader) (n : ℕ) → (fieldOf s r n .next .at .0 ≡ r .at .0 → ⊥) → Enough s r n
@@ -42,7 +42,7 @@ three-values s at b =
     let e : 3 * b ≡ b + b + b = omega arith in
     rw (e, split s at (b + b) b, split s at b b, add-assoc at b b)
 
-pieces : (x y z b : ℕ) → y < 2 ^ b → z < 2 ^ b → cutOf ((x * 2 ^ b + y) * 2 ^ b + z) b ≡ record { first = x; second = y; third = z }
+pieces : (x y z b : ℕ) → y < 2 ^ b → z < 2 ^ b → cutInThree ((x * 2 ^ b + y) * 2 ^ b + z) b ≡ record { first = x; second = y; third = z }
 pieces x y z b h g = rw (high (x * 2 ^ b + y) b g, low (x * 2 ^ b + y) b g, high x b h, low x b h)
 
 -- b of the bits that remain, from d on
@@ -50,7 +50,7 @@ part : {s : List ℕ} {r : Reader} {n : ℕ} (d b : ℕ) → Enough s r n → d 
 part d b h l = record { short = h .short; near = omega arith; enough = omega arith }
 
 pub at-once : (s : List ℕ) (r : Reader) (b : ℕ) (f : Field) → f ≡ fieldOf s r (3 * b) → b ≤ 10 → (f .next .at .0 ≡ r .at .0 → ⊥) →
-    ran (cutOf (f .value) b) (f .next) ≡ run (singlesOf b) s r
+    ran (cutInThree (f .value) b) (f .next) ≡ run (singlesOf b) s r
 unfolding singlesOf run
 at-once s r b f e l m =
     let at = r .at .0 in
@@ -59,6 +59,6 @@ at-once s r b f e l m =
     field-whole s r b (record { short = all .short; near = all .near; enough = omega arith }) (omega arith) in
     let two = field-whole s (readerAt (at + b)) b (part b b all (omega arith)) (omega arith) in
     let three = field-whole s (readerAt (at + b + b)) b (rw (← add-assoc at b b) at (part (b + b) b all (omega arith))) (omega arith) in
-    let values = rw (← three-values s at b) at (pieces (bitsValue s at b) _ _ b (below s (at + b) b) (below s (at + b + b) b)) in
+    let values = rw (← three-values s at b) at (pieces (bitsValue s at b) _ _ b (bits-below s (at + b) b) (bits-below s (at + b + b) b)) in
     let place : at + 3 * b ≡ at + b + b + b = omega arith in
     rw (e, field-whole s r (3 * b) all (omega arith), one, two, three, place) (ap (λ k. ran k (readerAt (at + b + b + b))) values)

@@ -2,7 +2,7 @@
 -- at most 104,848 in each granule, so that each is an `f32` exactly; from the limit up all is 0.
 -- Assumes nothing.
 use Prim.Native.Nat.{ℕ, zero, suc, _+_, _-_, _*_, _/_, _%_, _^_, _≤_, _<_}
-use mathlib.Core.Path.{_≡_, refl, _∙_}
+use mathlib.Core.Path.{_≡_, _∙_}
 use mathlib.Core.Bool.{Bool, true, false}
 use mathlib.Core.List.{List, [], _∷_, _++_}
 use native.Mathlib.Nat.{mod-lt, le-trans, div-mul-le-self, le-div-iff-mul-le}
@@ -12,18 +12,19 @@ use lib.IntN.{ℤ, pos, natAbs}
 use lib.ListN.{length, getD, set, replicate, length-set, length-replicate}
 use lib.Seq.{getD-set-other}
 use Rattle.ground.specs.Tests.{by-test}
+use Rattle.ground.specs.Entries.{each-after-set, copies-at}
 use Rattle.grammar.specs.Values.{Always, always-bind, anything, always-anything}
 use Rattle.tables.specs.Standard.{levelsOf, codeBitsOf, groupedOf}
 use Rattle.tables.specs.Laws.{sized}
-use Rattle.samples.specs.Bounds.{mostOf, ranged, sample-small}
+use Rattle.samples.specs.Bounds.{mostOf, quantiser-range, sample-small}
 use Rattle.samples.specs.declared.Three.{Three}
 use Rattle.side.specs.Bands.{three}
 use Rattle.side.specs.Side.{Side, sideOf}
-use Rattle.side.specs.Values.{bands-always, pair-always, allocated-always, Ranged, side-ranged}
-use Rattle.codes.specs.Frame.{codesOf, singlesOf, samplesOf, placeOf, copied, sampleBandOf, granuleOf, granulesOf, frameOf}
+use Rattle.side.specs.Values.{bands-always, pair-always, allocated-always, SideInRange, side-ranged}
+use Rattle.codes.specs.Frame.{codesOf, singlesOf, threeSamplesOf, placeOf, copied, sampleBandOf, granuleOf, granulesOf, frameOf}
 
 -- the codes of a quantiser
-pub record Small (m : ℕ) (c : Three) : Type 0 where
+pub record CodesUpTo (m : ℕ) (c : Three) : Type 0 where
   pub first : c .first ≤ m
   pub second : c .second ≤ m
   pub third : c .third ≤ m
@@ -41,15 +42,15 @@ most-single : (q : ℕ) → groupedOf q ≡ false → levelsOf q ≡ mostOf q
 unfolding mostOf
 most-single q g = rw g
 
-pub codes-small : (q : ℕ) → 0 < q → q < 18 → Always (Small (mostOf q)) (codesOf q)
+pub codes-small : (q : ℕ) → 0 < q → q < 18 → Always (CodesUpTo (mostOf q)) (codesOf q)
 unfolding codesOf singlesOf Always
 codes-small q p h =
     let l = levelsOf q in
     let z = sized q p h in
-    let r = ranged q p h in
+    let r = quantiser-range q p h in
     let L : 0 < l = omega (arith, z .least) in
     let top = 2 ^ codeBitsOf q - 1 in
-    by-test (Always (Small (mostOf q))) (groupedOf q) _ _
+    by-test (Always (CodesUpTo (mostOf q))) (groupedOf q) _ _
     (λ g v b. record {
       first = omega (arith, mod-lt v L, r .digit);
       second = omega (arith, mod-lt (v / l) L, r .digit);
@@ -57,9 +58,9 @@ codes-small q p h =
     })
     (λ g. let e = most-single q g in
     λ a ha b hb c hc. record {
-      first = omega (arith, e, z .one g);
-      second = omega (arith, e, z .one g);
-      third = omega (arith, e, z .one g);
+      first = omega (arith, e, z .single g);
+      second = omega (arith, e, z .single g);
+      third = omega (arith, e, z .single g);
     })
 
 -- 192 samples, each of magnitude at most 104,848
@@ -67,40 +68,27 @@ pub record Bounded (xs : List ℤ) : Type 0 where
   pub many : length xs ≡ 192
   pub each : (i : ℕ) → natAbs (getD xs i (pos 0)) ≤ 104848
 
-set-bounded : (xs : List ℤ) (k : ℕ) (v : ℤ) → ((i : ℕ) → natAbs (getD xs i (pos 0)) ≤ 104848) → natAbs v ≤ 104848 →
-    (i : ℕ) → natAbs (getD (set xs k v) i (pos 0)) ≤ 104848
-set-bounded [] k v p q i = p i
-set-bounded (x ∷ xs) zero v p q zero = q
-set-bounded (x ∷ xs) zero v p q (suc i) = p (suc i)
-set-bounded (x ∷ xs) (suc k) v p q zero = p 0
-set-bounded (x ∷ xs) (suc k) v p q (suc i) = set-bounded xs k v (λ j. p (suc j)) q i
-
 set-keeps : (xs : List ℤ) (k : ℕ) (v : ℤ) → Bounded xs → natAbs v ≤ 104848 → Bounded (set xs k v)
-set-keeps xs k v p q = record { many = length-set xs k v ∙ p .many; each = set-bounded xs k v (p .each) q }
+set-keeps xs k v p q = record { many = length-set xs k v ∙ p .many; each = each-after-set (λ x. natAbs x ≤ 104848) (pos 0) xs k v (p .each) q }
 
 three-keeps : (xs : List ℤ) (place : ℕ) (x y z : ℤ) → Bounded xs → natAbs x ≤ 104848 → natAbs y ≤ 104848 → natAbs z ≤ 104848 → Bounded (three place x y z xs)
 three-keeps xs place x y z p h g k = set-keeps _ (place + 128) z (set-keeps _ (place + 64) y (set-keeps xs place x p h) g) k
 
-zero-at : (n i : ℕ) → getD (replicate n (pos 0)) i (pos 0) ≡ pos 0
-zero-at zero i = refl
-zero-at (suc n) zero = refl
-zero-at (suc n) (suc i) = zero-at n i
-
 pub silence : Bounded (replicate 192 (pos 0))
-silence = record { many = length-replicate 192 (pos 0); each = λ i. rw (zero-at 192 i) (lit≤ tt) }
+silence = record { many = length-replicate 192 (pos 0); each = λ i. rw (copies-at (pos 0) 192 i) (lit≤ tt) }
 
-samples-bounded : (q factor place : ℕ) → 0 < q → q < 18 → factor ≤ 33554432 → (xs : List ℤ) → Bounded xs → Always Bounded (samplesOf q factor place xs)
-unfolding samplesOf Always
+samples-bounded : (q factor place : ℕ) → 0 < q → q < 18 → factor ≤ 33554432 → (xs : List ℤ) → Bounded xs → Always Bounded (threeSamplesOf q factor place xs)
+unfolding threeSamplesOf Always
 samples-bounded q factor place p h f xs l =
-    always-bind (Small (mostOf q)) Bounded (codesOf q) _ (codes-small q p h)
+    always-bind (CodesUpTo (mostOf q)) Bounded (codesOf q) _ (codes-small q p h)
     (λ c s. three-keeps xs place _ _ _ l (sample-small q (c .first) factor p h (s .first) f)
     (sample-small q (c .second) factor p h (s .second) f) (sample-small q (c .third) factor p h (s .third) f))
 
-module _ (side : Side) (r : Ranged side) (part : ℕ) where
+module _ (side : Side) (r : SideInRange side) (part : ℕ) where
   place-bounded : (place : ℕ) (xs : List ℤ) → Bounded xs → Always Bounded (placeOf side part place xs)
   unfolding placeOf
   place-bounded place =
-      allocated-always Bounded (side .quant) (λ k. samplesOf (getD (side .quant) k 0) (getD (side .factor) (part * 64 + k) 0) k) place
+      allocated-always Bounded (side .quant) (λ k. threeSamplesOf (getD (side .quant) k 0) (getD (side .factor) (part * 64 + k) 0) k) place
       (λ e. samples-bounded (getD (side .quant) place 0) (getD (side .factor) (part * 64 + place) 0) place
       (omega arith) (r .quant .each place) (omega (arith, r .factor .each (part * 64 + place))))
 
@@ -129,15 +117,15 @@ module _ (limit : ℕ) where
   three-silent place x y z xs h p =
       set-silent _ (place + 128) z (omega arith) (set-silent _ (place + 64) y (omega arith) (set-silent xs place x h p))
 
-  samples-silent : (q factor place : ℕ) → place % 32 < limit → (xs : List ℤ) → Silent limit xs → Always (Silent limit) (samplesOf q factor place xs)
-  unfolding samplesOf Always
+  samples-silent : (q factor place : ℕ) → place % 32 < limit → (xs : List ℤ) → Silent limit xs → Always (Silent limit) (threeSamplesOf q factor place xs)
+  unfolding threeSamplesOf Always
   samples-silent q factor place h xs p =
       always-bind anything (Silent limit) (codesOf q) _ (always-anything (codesOf q)) (λ c _. three-silent place _ _ _ xs h p)
 
   place-silent : (side : Side) (part place : ℕ) → place % 32 < limit → (xs : List ℤ) → Silent limit xs → Always (Silent limit) (placeOf side part place xs)
   unfolding placeOf
   place-silent side part place h =
-      allocated-always (Silent limit) (side .quant) (λ k. samplesOf (getD (side .quant) k 0) (getD (side .factor) (part * 64 + k) 0) k) place
+      allocated-always (Silent limit) (side .quant) (λ k. threeSamplesOf (getD (side .quant) k 0) (getD (side .factor) (part * 64 + k) 0) k) place
       (λ _. samples-silent (getD (side .quant) place 0) (getD (side .factor) (part * 64 + place) 0) place h)
 
   band-silent : (side : Side) (part bound sb : ℕ) → sb < limit → (xs : List ℤ) → Silent limit xs → Always (Silent limit) (sampleBandOf side part bound sb xs)
@@ -148,7 +136,7 @@ module _ (limit : ℕ) where
 
   zeros-silent : (n : ℕ) → Silent limit (replicate n (pos 0))
   unfolding Silent
-  zeros-silent n i l = zero-at n i
+  zeros-silent n i l = copies-at (pos 0) n i
 
   pub granule-silent : (side : Side) (part bound : ℕ) → Always (Silent limit) (granuleOf side part bound limit)
   unfolding granuleOf
@@ -166,7 +154,8 @@ module _ (P : List ℤ → Type 0) where
   one-more [] x p q = (q, tt)
   one-more (y ∷ ys) x p q = (p .0, one-more ys x (p .1) q)
 
-  granules-all : (side : Side) (bound limit : ℕ) → ((part : ℕ) → Always P (granuleOf side part bound limit)) → (n : ℕ) → Always (All P) (granulesOf side bound limit n)
+  granules-all : (side : Side) (bound limit : ℕ) → ((part : ℕ) → Always P (granuleOf side part bound limit)) → (n : ℕ) →
+      Always (All P) (granulesOf side bound limit n)
   unfolding granulesOf Always All
   granules-all side bound limit h zero = tt
   granules-all side bound limit h (suc g) =
@@ -177,7 +166,7 @@ module _ (P : List ℤ → Type 0) where
 pub frame-bounded : (mono : Bool) (table bound limit : ℕ) → Always (All Bounded) (frameOf mono table bound limit)
 unfolding frameOf
 frame-bounded mono table bound limit =
-    always-bind Ranged (All Bounded) (sideOf mono table bound limit) _ (side-ranged mono table bound limit)
+    always-bind SideInRange (All Bounded) (sideOf mono table bound limit) _ (side-ranged mono table bound limit)
     (λ side r. granules-all Bounded side bound limit (λ part. granule-bounded side r part bound limit) 12)
 
 pub frame-silent : (mono : Bool) (table bound limit : ℕ) → Always (All (Silent limit)) (frameOf mono table bound limit)

@@ -17,7 +17,7 @@ use Rattle.tables.specs.Standard.{codeBitsOf, groupedOf}
 use Rattle.tables.specs.Laws.{bits≤16}
 use Rattle.side.specs.Side.{Side, sideOf}
 use Rattle.side.specs.Widths.{bands-narrow, pair-narrow, allocated-narrow, side-narrow}
-use Rattle.codes.specs.Frame.{codesOf, singlesOf, samplesOf, placeOf, sampleBandOf, granuleOf, granulesOf, frameOf}
+use Rattle.codes.specs.Frame.{codesOf, singlesOf, threeSamplesOf, placeOf, sampleBandOf, granuleOf, granulesOf, frameOf}
 
 codes-narrow : (q : ℕ) → Narrow (codesOf q)
 unfolding codesOf singlesOf Narrow
@@ -26,7 +26,7 @@ codes-narrow q =
     by-test Narrow (groupedOf q) _ _ (λ _. (b, λ _. tt)) (λ _. (b, λ _. (b, λ _. (b, λ _. tt))))
 
 place-narrow : (side : Side) (part place : ℕ) (xs : List ℤ) → Narrow (placeOf side part place xs)
-unfolding placeOf samplesOf Narrow
+unfolding placeOf threeSamplesOf Narrow
 place-narrow side part =
     allocated-narrow (side .quant) _ (λ place xs. narrow-bind (codesOf (getD (side .quant) place 0)) _ (codes-narrow _) (λ _. tt))
 

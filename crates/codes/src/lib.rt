@@ -6,8 +6,8 @@ ghost use Prim.Native.Nat.{_≤_, _<_};
 ghost use Rattle.grammar.specs.Reads.{run, ran};
 ghost use Rattle.side.specs.Bands.{three};
 ghost use Rattle.side.specs.Below.{Below, sideWith};
-ghost use Rattle.codes.specs.Three.{cutOf};
-ghost use Rattle.codes.specs.Frame.{singlesOf, codesOf, samplesOf, placeOf, copied, sampleBandOf, samplesFrom};
+ghost use Rattle.codes.specs.Three.{cutInThree};
+ghost use Rattle.codes.specs.Frame.{singlesOf, codesOf, threeSamplesOf, placeOf, copied, sampleBandOf, samplesFrom};
 
 // Three codes of one place, and the reader after them.
 struct Codes {
@@ -37,7 +37,7 @@ fn read_singles(reader: Reader, s: &[u8], bits: usize) -> Codes
 // The three numbers of `bits` bits in one of three times as many.
 fn cut_in_three(value: u32, bits: usize) -> Three
     requires { ⌜ bits ≤ 10 ⌝ }
-    ensures { λ r. ⌜ r ≡ cutOf value bits ⌝ }
+    ensures { λ r. ⌜ r ≡ cutInThree value bits ⌝ }
 {
     let size = 1u32 << bits;
     let rest = value >> bits;
@@ -101,7 +101,7 @@ fn read_samples(
     sample: &mut [i32; 192],
 ) -> Reader
     requires { ⌜ (0 < q) × (q < 18) × (factor ≤ 33554432) × (place < 64) ⌝ }
-    ensures { λ r. ⌜ ran (now (sample .exit)) r ≡ run (samplesOf q factor place (now (sample .entry))) (now (s .entry)) reader ⌝ }
+    ensures { λ r. ⌜ ran (now (sample .exit)) r ≡ run (threeSamplesOf q factor place (now (sample .entry))) (now (s .entry)) reader ⌝ }
 {
     let c = read_codes(reader, s, q);
     let codes = c.codes;
@@ -125,7 +125,8 @@ fn read_place(
     sample: &mut [i32; 192],
 ) -> Reader
     requires { ⌜ (part < 3) × (place < 64) × Below 18 (now quant) × Below 33554433 (now factor) ⌝ }
-    ensures { λ r. ⌜ ran (now (sample .exit)) r ≡ run (placeOf (sideWith (now (quant .entry)) (now (factor .entry))) part place (now (sample .entry))) (now (s .entry)) reader ⌝ }
+    ensures { λ r. ⌜ ran (now (sample .exit)) r
+        ≡ run (placeOf (sideWith (now (quant .entry)) (now (factor .entry))) part place (now (sample .entry))) (now (s .entry)) reader ⌝ }
 {
     let q = quant[place] as usize;
     if q == 0 {
@@ -157,7 +158,8 @@ fn sample_band(
     sample: &mut [i32; 192],
 ) -> Reader
     requires { ⌜ (part < 3) × (sb < 32) × Below 18 (now quant) × Below 33554433 (now factor) ⌝ }
-    ensures { λ r. ⌜ ran (now (sample .exit)) r ≡ run (sampleBandOf (sideWith (now (quant .entry)) (now (factor .entry))) part bound sb (now (sample .entry))) (now (s .entry)) reader ⌝ }
+    ensures { λ r. ⌜ ran (now (sample .exit)) r
+        ≡ run (sampleBandOf (sideWith (now (quant .entry)) (now (factor .entry))) part bound sb (now (sample .entry))) (now (s .entry)) reader ⌝ }
 {
     let left = read_place(reader, s, quant, factor, part, sb, sample);
     if sb < bound {
@@ -179,7 +181,8 @@ pub fn read_granule(
     sample: &mut [i32; 192],
 ) -> Reader
     requires { ⌜ (part < 3) × (limit ≤ 32) × Below 18 (now quant) × Below 33554433 (now factor) ⌝ }
-    ensures { λ r. ⌜ ran (now (sample .exit)) r ≡ run (samplesFrom (sideWith (now (quant .entry)) (now (factor .entry))) part bound limit (now (sample .entry))) (now (s .entry)) reader ⌝ }
+    ensures { λ r. ⌜ ran (now (sample .exit)) r
+        ≡ run (samplesFrom (sideWith (now (quant .entry)) (now (factor .entry))) part bound limit (now (sample .entry))) (now (s .entry)) reader ⌝ }
 {
     let mut next = reader;
     let mut sb = 0;

@@ -4,25 +4,24 @@ use mathlib.Core.Path.{_≡_, sym, _∙_, subst}
 use mathlib.Core.List.{List, _++_}
 use Prim.Native.Nat.{ℕ, zero, suc, _+_, _-_, _*_, _/_, _%_, _≤_, _<_}
 use native.Mathlib.Omega.{arith}
-use native.Mathlib.Decide.{decLt, ℕ-discrete}
+use native.Mathlib.Decide.{decLt}
 use lib.IntN.{ℤ}
-use lib.ListN.{getD, length, take, drop, replicate, length-replicate, getD-replicate, List·getD-append}
+use lib.ListN.{getD, length, drop, replicate, length-replicate, getD-replicate, List·getD-append}
 use lib.Seq.{getD-take, getD-drop}
 use lib.Ieee.{Float, nan}
 use Rattle.transform.specs.Transform.{idct, idct-length}
 use Rattle.window.specs.Output.{Place, nought, outputOf}
-use Rattle.synthesis.specs.Slots.{positionAfter, put, ringAfter, slotRing, outputsAt, leftOf, rightOf, memoryAfter, outputAfter}
+use Rattle.synthesis.specs.Slots.{memoryLength, positionAfter, put, ringAfter, slotRing, outputsAt, ringOf, memoryAfter, outputAfter}
 use Rattle.synthesis.specs.Ring.{place-after, put-low, put-in, put-high, ring-length}
-use Rattle.synthesis.specs.Memory.{left-length, right-length, memory-left, memory-right}
-use Rattle.synthesis.specs.Output.{output-even, output-odd}
+use Rattle.synthesis.specs.Memory.{ring-of-length, memory-ring}
+use Rattle.synthesis.specs.Output.{output-at}
 
 -- of each value of a ring, of both rings of a memory, and of each value that a slot's samples become
 unfoldable pub Each : (Float → Type 0) → List Float → Type 0
 Each P ring = (i : ℕ) → i < 1024 → P (getD ring i nan)
 
-pub record Both (P : Float → Type 0) (memory : List Float) : Type 0 where
-  pub left : Each P (leftOf memory)
-  pub right : Each P (rightOf memory)
+abbrev pub InBothRings : (Float → Type 0) → List Float → Type 0
+InBothRings P memory = (channel : ℕ) → channel < 2 → Each P (ringOf channel memory)
 
 unfoldable pub Written : (Float → Type 0) → List ℤ → Type 0
 Written P samples = (i : ℕ) → i < 64 → P (getD (idct samples) i nan)
@@ -41,13 +40,12 @@ module _ (P : Float → Type 0) where
   move e h = subst P (sym e) h
 
   -- so each value of a cleared memory has what +0.0 has
-  pub each-cleared : P nought → (n : ℕ) (more : List Float) → 2048 ≤ n → Both P (replicate n nought ++ more)
-  unfolding leftOf rightOf Each
-  each-cleared z n more h = record { left = half 0 (omega arith); right = half 1024 (omega arith) }
-    where
-      half : (k : ℕ) → k ≤ 1024 → Each P (take 1024 (drop k (replicate n nought ++ more)))
-      half k hk i l =
-          move (getD-take 1024 (drop k (replicate n nought ++ more)) i nan l ∙ getD-drop k (replicate n nought ++ more) i nan ∙ zeros-at n (k + i) more (omega arith)) z
+  pub each-cleared : P nought → (n : ℕ) (more : List Float) → memoryLength ≤ n → InBothRings P (replicate n nought ++ more)
+  unfolding ringOf Each
+  each-cleared z n more h channel two i l =
+      let memory = replicate n nought ++ more in
+      let k = 1024 * channel in
+      move (getD-take 1024 (drop k memory) i nan l ∙ getD-drop k memory i nan ∙ zeros-at n (k + i) more (omega arith)) z
 
   -- ---- one channel
 
@@ -81,32 +79,18 @@ module _ (P : Float → Type 0) where
 
   -- ---- both channels
 
-  module _ (f : ℕ → ℕ → List ℤ) {p : ℕ} (h : Place p) (memory : List Float) (big : 2048 ≤ length memory) (both : Both P memory) (n : ℕ)
-      (written : (ch : ℕ) → ch < 2 → (k : ℕ) → k < n → Written P (f ch k)) where
-    pub each-after : Both P (memoryAfter f p memory n)
-    each-after =
-        record {
-          left =
-              subst (Each P) (sym (memory-left f h memory big n))
-              (each-ring (f 0) h (leftOf memory) (left-length memory big) (both .left) n (written 0 (omega arith)));
-          right =
-              subst (Each P) (sym (memory-right f h memory big n))
-              (each-ring (f 1) h (rightOf memory) (right-length memory big) (both .right) n (written 1 (omega arith)));
-        }
+  module _ (f : ℕ → ℕ → List ℤ) {p : ℕ} (h : Place p) (memory : List Float) (big : memoryLength ≤ length memory) (both : InBothRings P memory) (n : ℕ)
+      (written : (channel : ℕ) → channel < 2 → (k : ℕ) → k < n → Written P (f channel k)) where
+    pub each-after : InBothRings P (memoryAfter f p memory n)
+    each-after channel two =
+        subst (Each P) (sym (memory-ring f h memory big channel two n))
+        (each-ring (f channel) h (ringOf channel memory) (ring-of-length channel two memory big) (both channel two) n (written channel two))
 
     pub each-output : (Q : Float → Type 0) → ((r : List Float) → Each P r → Summed Q r)
         → (output : List Float) (at : ℕ) → at + 64 * n ≤ length output → (i : ℕ) → i < 64 * n → Q (getD (outputAfter f p memory output at n) (at + i) nan)
-    each-output Q sums output at room i hi = go (ℕ-discrete (i % 2) 0)
-      where
-        odd : ¬ (i % 2 ≡ 0) → i % 2 ≡ 1
-        odd x = omega arith
-
-        go : Dec (i % 2 ≡ 0) → Q (getD (outputAfter f p memory output at n) (at + i) nan)
-        go (yes x) =
-            subst Q (sym (output-even f p memory output at n room i hi x))
-            (each-outputs (f 0) h (leftOf memory) (left-length memory big) (both .left) Q sums (i / 64) (i % 64 / 2)
-            (λ k l. written 0 (omega arith) k (omega arith)) (omega arith))
-        go (no x) =
-            subst Q (sym (output-odd f p memory output at n room i hi (odd x)))
-            (each-outputs (f 1) h (rightOf memory) (right-length memory big) (both .right) Q sums (i / 64) (i % 64 / 2)
-            (λ k l. written 1 (omega arith) k (omega arith)) (omega arith))
+    each-output Q sums output at room i hi =
+        let channel = i % 2 in
+        let two : channel < 2 = omega arith in
+        subst Q (sym (output-at f p memory output at n room i hi))
+        (each-outputs (f channel) h (ringOf channel memory) (ring-of-length channel two memory big) (both channel two) Q sums (i / 64) (i % 64 / 2)
+        (λ k l. written channel two k (omega arith)) (omega arith))

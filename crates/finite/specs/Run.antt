@@ -7,15 +7,15 @@ use lib.IntN.{ℤ}
 use lib.ListN.{getD, length}
 use lib.Ieee.{Float, nan}
 use Rattle.window.specs.Output.{Place}
-use Rattle.synthesis.specs.Slots.{memoryAfter, outputAfter}
+use Rattle.synthesis.specs.Slots.{memoryLength, memoryAfter, outputAfter}
 use Rattle.finite.specs.Within.{Within}
 use Rattle.finite.specs.Halving.{Quiet, idct-within}
 use Rattle.finite.specs.Sums.{output-of-within}
-use Rattle.finite.specs.Each.{Each, Both, Written, Summed, each-after, each-output}
+use Rattle.finite.specs.Each.{Each, InBothRings, Written, Summed, each-after, each-output}
 
 -- a memory that holds what such slots wrote
 abbrev pub Calm : List Float → Type 0
-Calm memory = Both (Within (2 ^ 36)) memory
+Calm memory = InBothRings (Within (2 ^ 36)) memory
 
 quiet-written : {samples : List ℤ} → Quiet samples → Written (Within (2 ^ 36)) samples
 unfolding Written
@@ -25,10 +25,10 @@ calm-summed : (ring : List Float) → Each (Within (2 ^ 36)) ring → Summed (Wi
 unfolding Each Summed
 calm-summed ring h = output-of-within ring h
 
-module _ (f : ℕ → ℕ → List ℤ) {p : ℕ} (h : Place p) (memory : List Float) (big : 2048 ≤ length memory) (calm : Calm memory) (n : ℕ)
-    (quiet : (ch : ℕ) → ch < 2 → (k : ℕ) → k < n → Quiet (f ch k)) where
-  written : (ch : ℕ) → ch < 2 → (k : ℕ) → k < n → Written (Within (2 ^ 36)) (f ch k)
-  written ch c k l = quiet-written (quiet ch c k l)
+module _ (f : ℕ → ℕ → List ℤ) {p : ℕ} (h : Place p) (memory : List Float) (big : memoryLength ≤ length memory) (calm : Calm memory) (n : ℕ)
+    (quiet : (channel : ℕ) → channel < 2 → (k : ℕ) → k < n → Quiet (f channel k)) where
+  written : (channel : ℕ) → channel < 2 → (k : ℕ) → k < n → Written (Within (2 ^ 36)) (f channel k)
+  written channel two k l = quiet-written (quiet channel two k l)
 
   -- n slots leave a calm memory calm
   pub calm-after : Calm (memoryAfter f p memory n)

@@ -76,7 +76,8 @@ le-fin m e (fin false p d) n v t =
     le-of-mul-le-mul-right (le-trans h (le-of-eq (ap (λ (z : ℕ). z * down e) i ∙ mul-right-comm n (down d) (down e)))) (down-pos d)
 
 -- the sign does not matter to the magnitude
-signed : (b s : Bool) (d q k l n : ℕ) (y : Float) → HasValue y false n 1 → T (le (cond b (odd d false q k l) (inf false)) y) → Within n (cond b (odd d s q k l) (inf s))
+signed : (b s : Bool) (d q k l n : ℕ) (y : Float) → HasValue y false n 1 → T (le (cond b (odd d false q k l) (inf false)) y)
+    → Within n (cond b (odd d s q k l) (inf s))
 unfolding odd le lt eq
 signed true s d zero k l n y v t = zero-le
 signed true s d (suc q) k l n y v t = le-fin _ (minus (k + trailingZeros d (suc q)) l) y n v t
@@ -118,7 +119,8 @@ add-within a b n (fin s m e) (fin t p d) hx hy l r =
     let v = p * up d * down e in
     let C : 0 < c = mul-pos (down-pos e) (down-pos d) in
     let hu : u ≤ a * c = le-trans (mul-le-mul-right (down d) hx) (le-of-eq (mul-assoc a (down e) (down d))) in
-    let hv : v ≤ b * c = le-trans (mul-le-mul-right (down e) hy) (le-of-eq (mul-assoc b (down d) (down e) ∙ ap (λ (z : ℕ). b * z) (mul-comm (down d) (down e)))) in
+    let same : b * down d * down e ≡ b * c = mul-assoc b (down d) (down e) ∙ ap (λ (z : ℕ). b * z) (mul-comm (down d) (down e)) in
+    let hv : v ≤ b * c = le-trans (mul-le-mul-right (down e) hy) (le-of-eq same) in
     let k : a * c + b * c ≤ n * c = le-trans (le-of-eq (sym (add-mul a b c))) (mul-le-mul-right c l) in
     within-either (Bool·beq s t) n (round binary32 s (u + v) c) (cond (ltb u v) (round binary32 t (v - u) c) (round binary32 (s && ltb v u) (u - v) c))
     (round-within s (u + v) c n C (omega arith) r)

@@ -13,7 +13,7 @@ use Rattle.tables.specs.Differences.{tableOf}
 use Rattle.header.specs.declared.Format.{Format}
 use Rattle.side.specs.Side.{cutOf}
 use Rattle.codes.specs.Frame.{frameOf}
-use Rattle.synthesis.specs.Slots.{samplesOf, memoryAfter, outputAfter}
+use Rattle.synthesis.specs.Slots.{slotSamples, memoryAfter, outputAfter}
 
 -- a format that an accepted header can have
 pub record Fit (f : Format) : Type 0 where
@@ -27,7 +27,7 @@ limitIn f = limitOf (f .mode) (f .bitrate) (f .samplerate)
 
 -- "bound is cut down to it, in the state too"
 unfoldable pub cutFormat : Format → Format
-cutFormat f = record { samplerate = f .samplerate; bitrate = f .bitrate; mode = f .mode; bound = cutOf (f .bound) (limitIn f) }
+cutFormat f = record { reading = f .reading; samplerate = f .samplerate; bitrate = f .bitrate; mode = f .mode; bound = cutOf (f .bound) (limitIn f) }
 
 -- the program of reads: 12 granules of 192 samples
 unfoldable pub codesIn : Format → Reads (List (List ℤ))
@@ -39,10 +39,10 @@ granulesAt s r f = run (codesIn f) s r
 
 -- the samples of channel ch in slot n
 abbrev pub slotsOf : List (List ℤ) → ℕ → ℕ → List ℤ
-slotsOf granules ch n = samplesOf (getD granules (n / 3) []) ch (n % 3)
+slotsOf granules ch n = slotSamples (getD granules (n / 3) []) ch (n % 3)
 
-unfoldable pub memoryOf : List (List ℤ) → ℕ → List Float → List Float
-memoryOf granules ring memory = memoryAfter (slotsOf granules) ring memory 36
+unfoldable pub frameMemory : List (List ℤ) → ℕ → List Float → List Float
+frameMemory granules ring memory = memoryAfter (slotsOf granules) ring memory 36
 
-unfoldable pub outputOf : List (List ℤ) → ℕ → List Float → List Float → List Float
-outputOf granules ring memory output = outputAfter (slotsOf granules) ring memory output 0 36
+unfoldable pub frameOutput : List (List ℤ) → ℕ → List Float → List Float → List Float
+frameOutput granules ring memory output = outputAfter (slotsOf granules) ring memory output 0 36

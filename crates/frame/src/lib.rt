@@ -2,20 +2,17 @@
 use buffer::Reader;
 use header::Format;
 ghost use mathlib.Core.Path.{_≡_};
-ghost use Prim.Native.Nat.{_*_, _/_, _≤_, _<_};
+ghost use Prim.Native.Nat.{_≤_, _<_};
 ghost use lib.ListN.{length};
-ghost use Rattle.grammar.specs.Reads.{run};
-ghost use Rattle.codes.specs.Frame.{granuleOf, granulesOf};
-ghost use Rattle.side.specs.Below.{Below, sideWith};
-ghost use Rattle.window.specs.Window.{windowList};
 ghost use Rattle.window.specs.Output.{Place};
-ghost use Rattle.synthesis.specs.Slots.{samplesOf, positionAfter, memoryAfter, outputAfter};
-ghost use Rattle.frame.specs.Frame.{Fit, cutFormat, granulesAt, slotsOf, memoryOf, outputOf};
+ghost use Rattle.synthesis.specs.Slots.{memoryLength, outputLength};
+ghost use Rattle.frame.specs.Frame.{Fit, cutFormat, granulesAt};
+ghost use Rattle.frame.specs.Sounds.{GranulesLent, oneGranule, GranuleSounds, twelveGranules, FrameSounds};
 
 const MODE_MONO: u32 = 3;
 
 // The reader after the codes so far, and the ring position after their slots.
-pub struct Played {
+pub struct Sounded {
     pub end: Reader,
     pub ring: usize,
 }
@@ -25,8 +22,10 @@ pub fn cut_format(f: Format) -> Format
     requires { ⌜ Fit f ⌝ }
     ensures { λ r. ⌜ r ≡ cutFormat f ⌝ }
 {
+    let reading = f.reading;
     let limit = tables::limit(f.mode, f.bitrate, f.samplerate);
     Format {
+        reading,
         samplerate: f.samplerate,
         bitrate: f.bitrate,
         mode: f.mode,
@@ -37,7 +36,7 @@ pub fn cut_format(f: Format) -> Format
 // Granule g: its codes are read, and its three slots sound.
 fn granule(
     s: &[u8],
-    start: Played,
+    start: Sounded,
     quant: &[u8; 64],
     factor: &[u32; 192],
     bound: usize,
@@ -46,11 +45,10 @@ fn granule(
     window: &[f32; 512],
     memory: &mut [f32],
     output: &mut [f32],
-) -> Played
-    requires { ⌜ (g < 12) × (limit ≤ 32) × Below 18 (now quant) × Below 33554433 (now factor) × Place (start .ring) × (now window ≡ windowList) × (2048 ≤ length (now memory)) × (2304 ≤ length (now output)) ⌝ }
-    ensures { λ r. let x = run (granuleOf (sideWith (now (quant .entry)) (now (factor .entry))) (g / 4) bound limit) (now (s .entry)) (start .end) in ⌜ (r .end ≡ x .next) × (r .ring ≡ positionAfter (start .ring) 3) ⌝ }
-    ensures { λ _. let x = run (granuleOf (sideWith (now (quant .entry)) (now (factor .entry))) (g / 4) bound limit) (now (s .entry)) (start .end) in ⌜ now (memory .exit) ≡ memoryAfter (samplesOf (x .value)) (start .ring) (now (memory .entry)) 3 ⌝ }
-    ensures { λ _. let x = run (granuleOf (sideWith (now (quant .entry)) (now (factor .entry))) (g / 4) bound limit) (now (s .entry)) (start .end) in ⌜ now (output .exit) ≡ outputAfter (samplesOf (x .value)) (start .ring) (now (memory .entry)) (now (output .entry)) (192 * g) 3 ⌝ }
+) -> Sounded
+    requires { ⌜ (g < 12) × GranulesLent (now quant) (now factor) limit (start .ring) (now window) (now memory) (now output) ⌝ }
+    ensures { λ r. let x = oneGranule (now (s .entry)) (start .end) (now (quant .entry)) (now (factor .entry)) bound limit g in
+        ⌜ GranuleSounds x g (start .ring) (now (memory .entry)) (now (output .entry)) r (now (memory .exit)) (now (output .exit)) ⌝ }
 {
     let mut sample = [0i32; 192];
     let end = codes::read_granule(
@@ -64,13 +62,13 @@ fn granule(
         &mut sample,
     );
     let ring = synthesis::synthesize(memory, start.ring, &sample, window, output, 192 * g);
-    Played { end, ring }
+    Sounded { end, ring }
 }
 
 // The 12 granules of a frame, from the reader after its scale factors.
 fn granules(
     s: &[u8],
-    start: Played,
+    start: Sounded,
     quant: &[u8; 64],
     factor: &[u32; 192],
     bound: usize,
@@ -78,11 +76,10 @@ fn granules(
     window: &[f32; 512],
     memory: &mut [f32],
     output: &mut [f32],
-) -> Played
-    requires { ⌜ (limit ≤ 32) × Below 18 (now quant) × Below 33554433 (now factor) × Place (start .ring) × (now window ≡ windowList) × (2048 ≤ length (now memory)) × (2304 ≤ length (now output)) ⌝ }
-    ensures { λ r. let x = run (granulesOf (sideWith (now (quant .entry)) (now (factor .entry))) bound limit 12) (now (s .entry)) (start .end) in ⌜ (r .end ≡ x .next) × (r .ring ≡ positionAfter (start .ring) 36) ⌝ }
-    ensures { λ _. let x = run (granulesOf (sideWith (now (quant .entry)) (now (factor .entry))) bound limit 12) (now (s .entry)) (start .end) in ⌜ now (memory .exit) ≡ memoryOf (x .value) (start .ring) (now (memory .entry)) ⌝ }
-    ensures { λ _. let x = run (granulesOf (sideWith (now (quant .entry)) (now (factor .entry))) bound limit 12) (now (s .entry)) (start .end) in ⌜ now (output .exit) ≡ outputOf (x .value) (start .ring) (now (memory .entry)) (now (output .entry)) ⌝ }
+) -> Sounded
+    requires { ⌜ GranulesLent (now quant) (now factor) limit (start .ring) (now window) (now memory) (now output) ⌝ }
+    ensures { λ r. let x = twelveGranules (now (s .entry)) (start .end) (now (quant .entry)) (now (factor .entry)) bound limit in
+        ⌜ FrameSounds x (start .ring) (now (memory .entry)) (now (output .entry)) r (now (memory .exit)) (now (output .exit)) ⌝ }
 {
     let mut at = start;
     let mut g = 0;
@@ -112,11 +109,10 @@ pub fn decode_frame(
     ring: usize,
     memory: &mut [f32],
     output: &mut [f32],
-) -> Played
-    requires { ⌜ Fit f × Place ring × (2048 ≤ length (now memory)) × (2304 ≤ length (now output)) ⌝ }
-    ensures { λ r. ⌜ (r .end ≡ granulesAt (now (s .entry)) reader f .next) × (r .ring ≡ positionAfter ring 36) ⌝ }
-    ensures { λ _. ⌜ now (memory .exit) ≡ memoryOf (granulesAt (now (s .entry)) reader f .value) ring (now (memory .entry)) ⌝ }
-    ensures { λ _. ⌜ now (output .exit) ≡ outputOf (granulesAt (now (s .entry)) reader f .value) ring (now (memory .entry)) (now (output .entry)) ⌝ }
+) -> Sounded
+    requires { ⌜ Fit f × Place ring × (memoryLength ≤ length (now memory)) × (outputLength ≤ length (now output)) ⌝ }
+    ensures { λ r. let x = granulesAt (now (s .entry)) reader f in
+        ⌜ FrameSounds x ring (now (memory .entry)) (now (output .entry)) r (now (memory .exit)) (now (output .exit)) ⌝ }
 {
     let limit = tables::limit(f.mode, f.bitrate, f.samplerate);
     let table = tables::allocation_table(f.mode, f.bitrate, f.samplerate);
@@ -128,7 +124,7 @@ pub fn decode_frame(
     let window = window::synthesis_window();
     granules(
         s,
-        Played { end, ring },
+        Sounded { end, ring },
         &quant,
         &factor,
         bound,

@@ -31,9 +31,9 @@ called-bind (done a) f s r = omega arith
 called-bind (ask n k) f s r = omega (arith, called-bind (k (fieldOf s r n .value)) f s (fieldOf s r n .next))
 
 -- a field that was read, and what comes after it
-pub asked : {A : Type 0} (n : ℕ) (k : ℕ → Reads A) (s : List ℕ) (r : Reader) {f : Field} {x : Ran A} →
+pub fieldThen : {A : Type 0} (n : ℕ) (k : ℕ → Reads A) (s : List ℕ) (r : Reader) {f : Field} {x : Ran A} →
     f ≡ fieldOf s r n → x ≡ run (k (f .value)) s (f .next) → x ≡ run (ask n k) s r
-asked n k s r {x = x} e g = subst (λ y. x ≡ run (k (y .value)) s (y .next)) e g ∙ sym (run-ask n k s r)
+fieldThen n k s r {x = x} e g = subst (λ y. x ≡ run (k (y .value)) s (y .next)) e g ∙ sym (run-ask n k s r)
 
 -- a program that was run, and what comes after it
 pub andThen : {A B : Type 0} (m : Reads A) (f : A → Reads B) (s : List ℕ) (r : Reader) {r′ : Reader} {a : A} {x : Ran B} →

@@ -82,6 +82,7 @@ record Step (s : List ℕ) (r : Reader) (t : List ℕ) (q : Reader) (n : ℕ) : 
   moves : fieldOf s r n .next .at .0 ≡ r .at .0 + by
   moves′ : fieldOf t q n .next .at .0 ≡ q .at .0 + by
 
+-- more than 32 bits are refused on both sides; any others are there and agree
 step : (s t : List ℕ) (r q : Reader) (n : ℕ) → Enough s r n → Enough t q n → Agree s (r .at .0) t (q .at .0) n → Step s r t q n
 step s t r q n h h′ a = go (ltb 32 n) refl
   where
@@ -118,7 +119,8 @@ unfolding run called
 alike (done a) s t r q h h′ a′ = record { value = refl; calls = refl; moves = omega arith }
 alike (ask n k) s t r q h h′ a =
     let c = called (k (fieldOf s r n .value)) s (fieldOf s r n .next) in
-    let st = step s t r q n (rest 0 n r h (omega arith) (omega arith)) (rest 0 n q h′ (omega arith) (omega arith)) (agree-first s t (r .at .0) (q .at .0) n c a) in
+    let st = step s t r q n (rest 0 n r h (omega arith) (omega arith)) (rest 0 n q h′ (omega arith) (omega arith))
+    (agree-first s t (r .at .0) (q .at .0) n c a) in
     let ih = alike (k (fieldOf s r n .value)) s t (fieldOf s r n .next) (fieldOf t q n .next)
     (rest (st .by) c _ h (st .moves) (omega arith)) (rest (st .by) c _ h′ (st .moves′) (omega arith))
     (agree-rest s t (r .at .0) (q .at .0) n c (st .by) _ _ (st .moves) (st .moves′) (st .short) a) in

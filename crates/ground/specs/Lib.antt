@@ -4,3 +4,5 @@ pub mod Upto
 pub mod Table
 pub mod Entries
 pub mod Magnitude
+pub mod Rows
+pub mod Floats

@@ -54,9 +54,9 @@ fits32 (pos n) h k = record { sfits = omega arith }
 fits32 (negsuc n) h k = record { sfits = omega arith }
 
 -- an integer of small magnitude is read back from its 32 bits
-pub back : (z : ℤ) {n : ℕ} → natAbs z ≤ n → T (ltb n (2 ^ 31)) → toZ w32 (ofZ w32 z) ≡ z
-back z {n} h t = toZ-ofZ w32 z (fits32 z h (ltb→lt n (2 ^ 31) t))
+pub read-back : (z : ℤ) {n : ℕ} → natAbs z ≤ n → T (ltb n (2 ^ 31)) → toZ w32 (ofZ w32 z) ≡ z
+read-back z {n} h t = toZ-ofZ w32 z (fits32 z h (ltb→lt n (2 ^ 31) t))
 
 -- and a number below 2 ^ 31 is read as itself
-pub plain : (n : ℕ) {k : ℕ} → n ≤ k → T (ltb k (2 ^ 31)) → toZ w32 n ≡ pos n
-plain n {k} h t = toZ-pos w32 n (lt-of-le-of-lt h (ltb→lt k (2 ^ 31) t))
+pub read-as-itself : (n : ℕ) {k : ℕ} → n ≤ k → T (ltb k (2 ^ 31)) → toZ w32 n ≡ pos n
+read-as-itself n {k} h t = toZ-pos w32 n (lt-of-le-of-lt h (ltb→lt k (2 ^ 31) t))

@@ -5,12 +5,11 @@ use mathlib.Core.Path.{_≡_, refl, sym}
 use mathlib.Core.Bool.{Bool, true, false, not, _&&_, _||_}
 use mathlib.Core.List.{List}
 use native.Mathlib.Omega.{arith}
-use lib.Dec.{T, eqb, leb, leb→le}
+use lib.Dec.{eqb, leb, leb→le}
 use borrow.Author.Tests.{eqb-true, eqb-false, ne-eqb, not-false}
 use Rattle.ground.specs.Tests.{by-test, neither}
 use Rattle.ground.specs.Upto.{below2, and-left, and-right}
 use Rattle.buffer.specs.declared.Reader.{Reader}
-use Rattle.grammar.specs.Reads.{Reads, done, ask, _>>=_}
 use Rattle.grammar.specs.Values.{Always, always-bind, always-run}
 use Rattle.tables.specs.Standard.{kbpsOf, rateOf}
 use Rattle.header.specs.declared.Ident.{Ident}
@@ -22,22 +21,22 @@ use Rattle.header.specs.declared.Header.{Header}
 use Rattle.header.specs.declared.Header.the-variants.{Accepted, Refused}
 use Rattle.header.specs.declared.Start.{Start}
 use Rattle.header.specs.declared.Start.the-variants.{At, Refused as StartRefused}
-use Rattle.header.specs.Header.{identOf, ratesOf, modeOf, boundOf, checkOf, boundBy, sizeOf, restOf, byRates, byIdent, fieldsOf, differs, headerOf, startOf, byStart}
+use Rattle.header.specs.Header.{identOf, ratesOf, modeOf, boundOf, checkOf, boundBy, sizeOf, leastData, mostData, restOf, byRates, byIdent, fieldsOf, differs, headerOf, startOf, byStart}
 
 -- the frame size of each bit rate and sample rate, by one computed test
 sizesAt : ℕ → ℕ → Bool
 sizesAt b f =
     leb (kbpsOf b) 384 && (leb 1 (rateOf f) && (leb 96 (144000 * kbpsOf b / rateOf f) && leb (144000 * kbpsOf b / rateOf f) 1728))
 
-pub record Sizes (b f : ℕ) : Type 0 where
+pub record FrameSizes (b f : ℕ) : Type 0 where
   pub slow : kbpsOf b ≤ 384
   pub rate : 0 < rateOf f
   pub least : 96 ≤ 144000 * kbpsOf b / rateOf f
   pub most : 144000 * kbpsOf b / rateOf f ≤ 1728
 
-pub sizes : (b f : ℕ) → b < 14 → f < 3 → Sizes b f
+pub frame-sizes : (b f : ℕ) → b < 14 → f < 3 → FrameSizes b f
 unfolding sizesAt
-sizes b f p q =
+frame-sizes b f p q =
     let t = below2 sizesAt 14 3 tt b f p q in
     let u = and-right (leb (kbpsOf b) 384) _ t in
     let v = and-right (leb 1 (rateOf f)) _ u in
@@ -48,21 +47,21 @@ sizes b f p q =
       most = leb→le _ _ (and-right (leb 96 (144000 * kbpsOf b / rateOf f)) _ v);
     }
 
-size-fits : (b f p : ℕ) (check : Bool) → b < 14 → f < 3 → p < 2 → (90 ≤ sizeOf b f p check) × (sizeOf b f p check ≤ 1725)
+size-fits : (b f p : ℕ) (check : Bool) → b < 14 → f < 3 → p < 2 → (leastData ≤ sizeOf b f p check) × (sizeOf b f p check ≤ mostData)
 unfolding sizeOf
-size-fits b f p true l m n = let z = sizes b f l m in (omega arith, omega arith)
-size-fits b f p false l m n = let z = sizes b f l m in (omega arith, omega arith)
+size-fits b f p true l m n = let z = frame-sizes b f l m in (omega arith, omega arith)
+size-fits b f p false l m n = let z = frame-sizes b f l m in (omega arith, omega arith)
 
 -- the rates, where they are known
-abbrev pub Rated : Rates → Type 0
-Rated (Known b f p) = (b < 14) × (f < 3) × (p < 2)
-Rated (RatesRefused n) = Unit
+abbrev pub KnownRates : Rates → Type 0
+KnownRates (Known b f p) = (b < 14) × (f < 3) × (p < 2)
+KnownRates (RatesRefused n) = Unit
 
-pub rates-known : Always Rated ratesOf
+pub rates-known : Always KnownRates ratesOf
 unfolding ratesOf Always
 rates-known =
-    λ b l. by-test (Always Rated) (eqb b 0 || eqb b 15) _ _ (λ _. tt)
-    (λ m. λ f k. by-test (Always Rated) (eqb f 3) _ _ (λ _. tt)
+    λ b l. by-test (Always KnownRates) (eqb b 0 || eqb b 15) _ _ (λ _. tt)
+    (λ m. λ f k. by-test (Always KnownRates) (eqb f 3) _ _ (λ _. tt)
     (λ o. λ p j. (low b l (eqb-false b 15 (neither (eqb b 0) (eqb b 15) m .1)), three f k (eqb-false f 3 o), j)))
   where
     low : (b : ℕ) → b < 2 ^ 4 → (b ≡ 15 → ⊥) → b - 1 < 14
@@ -102,12 +101,12 @@ bound-small mode e k =
     other p q = omega arith
 
 -- 01's 6 the other way round: where a header was accepted earlier, the new one has its bit rate, sample rate and mode
-pub record Same (known f : Format) : Type 0 where
+pub record SameFormat (known f : Format) : Type 0 where
   pub bitrate : f .bitrate ≡ known .bitrate
   pub samplerate : f .samplerate ≡ known .samplerate
   pub mode : f .mode ≡ known .mode
 
-pub same-format : (known f : Format) → differs known (f .bitrate) (f .samplerate) (f .mode) ≡ false → (known .samplerate ≡ 3 → ⊥) → Same known f
+pub same-format : (known f : Format) → differs known (f .bitrate) (f .samplerate) (f .mode) ≡ false → (known .samplerate ≡ 3 → ⊥) → SameFormat known f
 same-format known f d n =
     let x = neither (not (eqb (known .bitrate) (f .bitrate)) || not (eqb (known .samplerate) (f .samplerate))) _ (rw (ne-eqb _ _ n) at d) in
     let y = neither (not (eqb (known .bitrate) (f .bitrate))) _ (x .0) in
@@ -124,9 +123,9 @@ pub record Good (known f : Format) (size : ℕ) : Type 0 where
   pub bound : f .bound ≤ 32
   pub mono : f .mode ≡ 3 → f .bound ≡ 0
   pub extension : Extended (f .mode) (f .bound)
-  pub same : (known .samplerate ≡ 3 → ⊥) → Same known f
-  pub least : 90 ≤ size
-  pub most : size ≤ 1725
+  pub same : (known .samplerate ≡ 3 → ⊥) → SameFormat known f
+  pub least : leastData ≤ size
+  pub most : size ≤ mostData
 
 abbrev pub GoodHeader : Format → Header → Type 0
 GoodHeader known (Accepted f size) = Good known f size
@@ -153,14 +152,14 @@ rest-good known check b f p l m n =
       most = z .1;
     })))
 
-rates-good : (known : Format) (check : Bool) (r : Rates) → Rated r → Always (GoodHeader known) (byRates known check r)
+rates-good : (known : Format) (check : Bool) (r : Rates) → KnownRates r → Always (GoodHeader known) (byRates known check r)
 unfolding Always
 rates-good known check (Known b f p) h = rest-good known check b f p (h .0) (h .1) (h .2)
 rates-good known check (RatesRefused n) h = tt
 
 ident-good : (known : Format) (i : Ident) → Always (GoodHeader known) (byIdent known i)
 unfolding Always
-ident-good known (LayerII check) = always-bind Rated (GoodHeader known) ratesOf _ rates-known (rates-good known check)
+ident-good known (LayerII check) = always-bind KnownRates (GoodHeader known) ratesOf _ rates-known (rates-good known check)
 ident-good known (IdentRefused n) = tt
 
 any-ident : Always (λ _. Unit) identOf

@@ -2,12 +2,11 @@
 -- ISO/IEC 11172-3, 2.4.1.3: ID, layer, protection_bit, bitrate_index, sampling_frequency, padding_bit, private_bit,
 -- mode, mode_extension, copyright, original/home, emphasis; then crc_check.
 use Prim.Native.Nat.{ℕ, _+_, _-_, _*_, _/_}
-use mathlib.Core.Bool.{Bool, true, false, cond, not, _&&_, _||_}
+use mathlib.Core.Bool.{Bool, cond, not, _&&_, _||_}
 use mathlib.Core.List.{List}
 use lib.Dec.{eqb}
 use Rattle.buffer.specs.Calls.{fieldOf, hasOf, skipBytesOf, searchOf}
 use Rattle.buffer.specs.declared.Reader.{Reader}
-use Rattle.buffer.specs.declared.Field.{Field}
 use Rattle.buffer.specs.declared.Holds.{Holds}
 use Rattle.buffer.specs.declared.Holds.the-variants.{Yes, No, Refused as HoldsRefused}
 use Rattle.buffer.specs.declared.Skipped.{Skipped}
@@ -90,6 +89,13 @@ boundOf mode check = ask 2 λ extension. ask 4 λ _. checkOf check >>= λ _. don
 unfoldable pub sizeOf : ℕ → ℕ → ℕ → Bool → ℕ
 sizeOf bitrate samplerate padding check = 144000 * kbpsOf bitrate / rateOf samplerate + padding - cond check 6 4
 
+-- "pending data size 0 or 90 to 1,725": the bytes that an accepted header can announce
+abbrev pub leastData : ℕ
+leastData = 90
+
+abbrev pub mostData : ℕ
+mostData = 1725
+
 -- "a header was accepted earlier, and bit rate, sample rate or mode differs"; code 3 means no header yet
 abbrev pub differs : Format → ℕ → ℕ → ℕ → Bool
 differs known bitrate samplerate mode =
@@ -102,7 +108,8 @@ restOf known check bitrate samplerate padding =
     modeOf >>= λ mode. cond (differs known bitrate samplerate mode) (done (Refused 6))
     (boundOf mode check >>= λ bound.
     done
-    (Accepted (record { samplerate = samplerate; bitrate = bitrate; mode = mode; bound = bound }) (sizeOf bitrate samplerate padding check)))
+    (Accepted (record { reading = known .reading; samplerate = samplerate; bitrate = bitrate; mode = mode; bound = bound })
+    (sizeOf bitrate samplerate padding check)))
 
 abbrev pub byRates : Format → Bool → Rates → Reads Header
 byRates known check (Known bitrate samplerate padding) = restOf known check bitrate samplerate padding

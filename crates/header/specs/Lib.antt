@@ -1,4 +1,6 @@
+pub mod Readings
 pub mod Header
 pub mod Accepted
 pub mod Moves
 pub mod Rows
+pub mod Attempts

@@ -1,20 +1,21 @@
 -- 01's rows 2 to 5: the data sizes of headers at the start of a stream, computed.
 use Prim.Native.Nat.{ℕ}
 use mathlib.Core.Path.{_≡_, refl}
-use mathlib.Core.List.{List, [], _∷_, _++_}
+use mathlib.Core.List.{_∷_, []}
 use lib.ListN.{replicate}
 use Rattle.ground.specs.First.{firstFrom}
 use Rattle.buffer.specs.Bits.{bitAt, bitsValue}
 use Rattle.buffer.specs.Calls.{readerAt, readOf, fieldOf, hasOf, skipBytesOf}
 use Rattle.grammar.specs.Reads.{_>>=_, run}
+use Rattle.header.specs.Readings.{plain}
 use Rattle.header.specs.declared.Format.{Format}
 use Rattle.header.specs.declared.Header.{Header}
 use Rattle.header.specs.declared.Header.the-variants.{Accepted, Refused}
 use Rattle.header.specs.Header.{headerOf, startOf, syncOf, fieldsOf, identOf, ratesOf, restOf, modeOf, boundOf, checkOf, sizeOf}
 
 -- no header yet
-abbrev pub fresh : Format
-fresh = record { samplerate = 3; bitrate = 0; mode = 0; bound = 0 }
+abbrev pub unknown : Format
+unknown = record { reading = plain; samplerate = 3; bitrate = 0; mode = 0; bound = 0 }
 
 -- the data size that four bytes with zeros behind them announce; 0 where they are refused
 abbrev sizeIn : Header → ℕ
@@ -22,11 +23,12 @@ sizeIn (Accepted f n) = n
 sizeIn (Refused n) = 0
 
 unfoldable pub announced : ℕ → ℕ → ℕ → ℕ → ℕ
-announced a b c d = sizeIn (headerOf (a ∷ b ∷ c ∷ d ∷ replicate 40 0) (readerAt 0) fresh .header)
+announced a b c d = sizeIn (headerOf (a ∷ b ∷ c ∷ d ∷ replicate 40 0) (readerAt 0) unknown .header)
 
 -- FF FD A0 00; with padding; with a check word; 32 kbps at 48 kHz with a check word; 384 kbps at 32 kHz with padding
 pub rows-2-to-5 : announced 0xFF 0xFD 0xA0 0x00 ∷ announced 0xFF 0xFD 0xA2 0x00 ∷ announced 0xFF 0xFC 0xA0 0x00
     ∷ announced 0xFF 0xFC 0x14 0x00 ∷ announced 0xFF 0xFD 0xEA 0x00 ∷ []
     ≡ 622 ∷ 623 ∷ 620 ∷ 90 ∷ 1725 ∷ []
-unfolding announced headerOf startOf syncOf hasOf skipBytesOf fieldOf readOf bitsValue bitAt firstFrom run _>>=_ fieldsOf identOf ratesOf restOf modeOf boundOf checkOf sizeOf
+unfolding announced headerOf startOf syncOf hasOf skipBytesOf fieldOf readOf bitsValue bitAt firstFrom run _>>=_
+    fieldsOf identOf ratesOf restOf modeOf boundOf checkOf sizeOf
 rows-2-to-5 = refl

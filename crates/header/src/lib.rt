@@ -7,7 +7,8 @@ use buffer::Sync;
 ghost use mathlib.Core.Path.{_≡_};
 ghost use Prim.Native.Nat.{_<_};
 ghost use Rattle.grammar.specs.Reads.{run, ran};
-ghost use Rattle.header.specs.Header.{identOf, ratesOf, modeOf, boundBy, checkOf, boundOf, sizeOf, differs, restOf, byRates, byIdent, fieldsOf, seekOf, syncOf, startOf, headerOf};
+ghost use Rattle.header.specs.Readings.{plain as plainReading, readingBy};
+ghost use Rattle.header.specs.Header.{identOf, ratesOf, modeOf, boundBy, checkOf, boundOf, sizeOf, differs, restOf, byIdent, fieldsOf, seekOf, syncOf, startOf, headerOf};
 
 const FRAME_SYNC: u32 = 0x7ff;
 
@@ -19,11 +20,40 @@ const MODE_JOINT_STEREO: u32 = 1;
 
 const MODE_MONO: u32 = 3;
 
-// The format that the first accepted header fixes. Sample-rate code 3 means that there is none yet.
+// The bytes of data that an accepted header can announce.
+pub const LEAST_DATA: usize = 90;
+
+pub const MOST_DATA: usize = 1725;
+
+// How a decoder reads: chosen at its opening, and kept. Each choice is a bit; specs/Readings says what it is for. Until its
+// request lands it changes nothing.
+pub struct Reading {
+    pub choices: u32,
+}
+
+// 01's decoder: no choice is taken.
+pub fn plain() -> Reading
+    ensures { λ r. ⌜ r ≡ plainReading ⌝ }
+{
+    Reading { choices: 0 }
+}
+
+// The reading that a caller asks for: what is no choice yet is dropped.
+pub fn reading_by(choices: u32) -> Reading
+    ensures { λ r. ⌜ r ≡ readingBy choices ⌝ }
+{
+    Reading {
+        choices: choices % 32,
+    }
+}
+
+// What frames are read by: the choices of the opening, and the format that the first accepted header fixes. Sample-rate code 3
+// means that there is none yet.
 pub struct Format {
     pub samplerate: usize,
     pub bitrate: usize,
     pub mode: u32,
+    pub reading: Reading,
     pub bound: usize,
 }
 
@@ -239,6 +269,7 @@ fn read_rest(
     requires { ⌜ (bitrate < 14) × (samplerate < 3) × (padding < 2) ⌝ }
     ensures { λ x. ⌜ ran (x .header) (x .next) ≡ run (restOf known check bitrate samplerate padding) (now (s .entry)) reader ⌝ }
 {
+    let reading = known.reading;
     let m = read_mode(s, reader);
     let mode = m.value;
     let one = m.next;
@@ -254,6 +285,7 @@ fn read_rest(
     Attempt {
         header: Header::Accepted(
             Format {
+                reading,
                 samplerate,
                 bitrate,
                 mode,

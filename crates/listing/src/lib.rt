@@ -1,11 +1,11 @@
 // What is in a clip, call by call: the lines of 01's lister, before they are text.
 use audio::Answer;
-use audio::Audio;
+use state::Audio;
 ghost use mathlib.Core.Path.{_≡_};
 ghost use Prim.Native.Nat.{_+_, _-_, _/_};
 ghost use Rattle.tables.specs.Standard.{kbpsOf, rateOf};
 ghost use Rattle.audio.specs.Calls.{decodeMemory, decodeOutput};
-ghost use Rattle.listing.specs.Lines.{byteOf, lineBy, nextOf};
+ghost use Rattle.listing.specs.Lines.{bytePosition, lineBy, nextOf};
 
 pub enum Line {
     Frame {
@@ -34,7 +34,7 @@ pub struct Listed {
 
 // The byte position, rounded down.
 pub fn byte_of(a: Audio) -> usize
-    ensures { λ r. ⌜ r ≡ byteOf a ⌝ }
+    ensures { λ r. ⌜ r ≡ bytePosition a ⌝ }
 {
     let reader = a.reader;
     let at = reader.at;
@@ -73,7 +73,7 @@ pub fn next_line(a: Audio, stream: &[u8], memory: &mut [f32], output: &mut [f32]
     ensures { λ _. ⌜ now (memory .exit) ≡ decodeMemory (now (stream .entry)) (now (memory .entry)) (now (output .entry)) a ⌝ }
     ensures { λ _. ⌜ now (output .exit) ≡ decodeOutput (now (stream .entry)) (now (memory .entry)) (now (output .entry)) a ⌝ }
 {
-    let d = a.decode(stream, memory, output);
+    let d = audio::decode(a, stream, memory, output);
     let state = d.state;
     let answer = d.answer;
     let line = line_of(a.frames, answer, state);
@@ -96,7 +96,7 @@ fn line_of(number: u32, answer: Answer, state: Audio) -> Line
             time,
         },
         Answer::Refused(n) => {
-            if (n == 1) | (n == 7) {
+            if audio::ends(n) {
                 return Line::End { number: n, at: end };
             }
             Line::Refused { number: n, at: end }

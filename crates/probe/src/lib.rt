@@ -1,4 +1,7 @@
 // Inner layers across the boundary, for the comparison with the Rust. Nothing here is part of the tag.
+mod reading;
+mod runs;
+
 use buffer::BitIndex;
 use buffer::Reader;
 ghost use mathlib.Core.Path.{_≡_};
@@ -13,7 +16,7 @@ ghost use Rattle.side.specs.Below.{Below, sideWith};
 ghost use Rattle.codes.specs.Frame.{samplesFrom};
 ghost use Rattle.transform.specs.Transform.{Small};
 ghost use Rattle.window.specs.Output.{Place};
-ghost use Rattle.synthesis.specs.Slots.{samplesOf, positionAfter, memoryAfter, outputAfter};
+ghost use Rattle.synthesis.specs.Slots.{slotSamples, positionAfter, memoryAfter, outputAfter};
 
 // The limit of subbands, the allocation table, and the bound cut to the limit.
 #[no_mangle]
@@ -25,7 +28,8 @@ pub extern "C" fn probe_layout(
     answer: &mut [usize; 3],
 )
     requires { ⌜ (bitrate < 14) × (samplerate < 3) ⌝ }
-    ensures { λ _. let l = limitOf mode bitrate samplerate in ⌜ now (answer .exit) ≡ set (set (set (now (answer .entry)) 0 l) 1 (tableOf mode bitrate samplerate)) 2 (cutOf bound l) ⌝ }
+    ensures { λ _. let l = limitOf mode bitrate samplerate in let t = tableOf mode bitrate samplerate in
+        ⌜ now (answer .exit) ≡ set (set (set (now (answer .entry)) 0 l) 1 t) 2 (cutOf bound l) ⌝ }
 {
     let limit = tables::limit(mode, bitrate, samplerate);
     let table = tables::allocation_table(mode, bitrate, samplerate);
@@ -48,7 +52,8 @@ pub extern "C" fn probe_side(
     factor: &mut [u32; 192],
 ) -> usize
     requires { ⌜ (table < 2) × (limit ≤ 32) ⌝ }
-    ensures { λ r. ⌜ ran (sideWith (now (quant .exit)) (now (factor .exit))) (readerAt r) ≡ run (sideOf mono table bound limit) (now (stream .entry)) (readerAt at) ⌝ }
+    ensures { λ r. let side = sideWith (now (quant .exit)) (now (factor .exit)) in
+        ⌜ ran side (readerAt r) ≡ run (sideOf mono table bound limit) (now (stream .entry)) (readerAt at) ⌝ }
 {
     let reader = Reader { at: BitIndex(at) };
     let read = side::read_side(reader, stream, mono, table, bound, limit);
@@ -72,7 +77,9 @@ pub extern "C" fn probe_granule(
     sample: &mut [i32; 192],
 ) -> usize
     requires { ⌜ (part < 3) × (limit ≤ 32) × Below 18 (now quant) × Below 33554433 (now factor) ⌝ }
-    ensures { λ r. ⌜ ran (now (sample .exit)) (readerAt r) ≡ run (samplesFrom (sideWith (now (quant .entry)) (now (factor .entry))) part bound limit (now (sample .entry))) (now (stream .entry)) (readerAt at) ⌝ }
+    ensures { λ r. let side = sideWith (now (quant .entry)) (now (factor .entry)) in
+        let samples = samplesFrom side part bound limit (now (sample .entry)) in
+        ⌜ ran (now (sample .exit)) (readerAt r) ≡ run samples (now (stream .entry)) (readerAt at) ⌝ }
 {
     let reader = Reader { at: BitIndex(at) };
     let next = codes::read_granule(reader, stream, quant, factor, part, bound, limit, sample);
@@ -90,8 +97,8 @@ pub extern "C" fn probe_synthesize(
 ) -> usize
     requires { ⌜ Place p × (2048 ≤ length (now memory)) × Small (now sample) × (at + 192 ≤ length (now output)) ⌝ }
     ensures { λ r. ⌜ r ≡ positionAfter p 3 ⌝ }
-    ensures { λ _. ⌜ now (memory .exit) ≡ memoryAfter (samplesOf (now (sample .entry))) p (now (memory .entry)) 3 ⌝ }
-    ensures { λ _. ⌜ now (output .exit) ≡ outputAfter (samplesOf (now (sample .entry))) p (now (memory .entry)) (now (output .entry)) at 3 ⌝ }
+    ensures { λ _. ⌜ now (memory .exit) ≡ memoryAfter (slotSamples (now (sample .entry))) p (now (memory .entry)) 3 ⌝ }
+    ensures { λ _. ⌜ now (output .exit) ≡ outputAfter (slotSamples (now (sample .entry))) p (now (memory .entry)) (now (output .entry)) at 3 ⌝ }
 {
     let window = window::synthesis_window();
     synthesis::synthesize(memory, p, sample, &window, output, at)

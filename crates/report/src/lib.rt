@@ -1,9 +1,10 @@
 // What is in a clip, as text: 01's lines, and for the stored streams each frame's start time and checksum behind its line.
-use audio::Asked;
-use audio::Audio;
-use audio::Heading;
+mod checksum;
+
 use libc::STDOUT_FILENO;
 use listing::Line;
+use verdict::Asked;
+use verdict::Heading;
 
 pub fn put(text: &[u8]) {
     io::write_all(STDOUT_FILENO, text);
@@ -86,9 +87,10 @@ fn print_opening(opened: Asked) {
 
 // On n bytes at most n/2 + 1 calls come before 1 or 7.
 fn list(stream: &[u8], marked: bool) {
-    let mut memory = [0.0f32; 2048];
-    let mut output = [0.0f32; 2304];
-    let opened = Audio::new(stream, &mut memory);
+    let reading = header::plain();
+    let mut memory = [0.0f32; synthesis::MEMORY];
+    let mut output = [0.0f32; synthesis::OUTPUT];
+    let opened = audio::new(stream, &mut memory, reading);
     print_opening(opened);
     let mut state = opened.state;
     let mut calls = stream.len() / 2 + 2;

@@ -1,6 +1,6 @@
 -- The level of a float by its bit pattern, as `riff::word` takes it. Assumes nothing.
 use mathlib.Core.Path.{_≡_, refl, sym, ap, _∙_, subst}
-use mathlib.Core.Bool.{Bool, true, false, not, cond}
+use mathlib.Core.Bool.{Bool, true, false, cond}
 use Prim.Native.Nat.{ℕ, zero, suc, _+_, _-_, _*_, _/_, _%_, _^_, _≤_, _<_, min}
 use native.Mathlib.Nat.{lt-of-lt-of-le, min-le-right, mul-assoc, mul-right-comm, mod-lt, pow-suc}
 use native.Mathlib.Omega.{arith}
@@ -10,25 +10,15 @@ use lib.IntN.{pos, negℤ}
 use lib.Pow.{pow-pos, pow-mono}
 use lib.Ieee.{Float, nan, inf, fin, binary32, up, down, odd, ne, isNan, fits, ofFields, ofBits, toBits}
 use lib.Ieee.Bits.{ofBits-toBits}
-use lib.Ieee.Compare.{differs-from-itself, nan-differs}
 use lib.Ieee.Exact.{HasValue, odd-sign}
 use lib.Ieee.Fits.{down-pos}
+use Rattle.ground.specs.Floats.{Real, nan-of-other, real-of-same}
 use Rattle.riff.specs.Level.{halfUp, held, levelOf, bits16}
 use Rattle.riff.proofs.Rounding.{stepsAt, half-same, none, far-below, one-or-more}
 
--- a float that differs from itself is the NaN, and no other does
 pub nan-level : (x : Float) → ne x x ≡ true → 0 ≡ bits16 (levelOf x)
 unfolding levelOf
-nan-level x h = rw (differs-from-itself x (subst T (sym h) tt))
-
-abbrev Real : Float → Type 0
-Real x = T (not (isNan x))
-
-pub real : (x : Float) → ne x x ≡ false → Real x
-unfolding isNan
-real nan h = subst T (sym nan-differs ∙ h) tt
-real (inf s) h = tt
-real (fin s m e) h = tt
+nan-level x h = rw (nan-of-other x h)
 
 -- no matter that the steps are held at 32768 already
 held-min : (s : Bool) (n : ℕ) → held s n ≡ held s (min n 32768)
@@ -106,7 +96,7 @@ down-bits (suc n) l = let e : min (suc n) 32768 ≡ suc n = omega arith in rw e 
 -- n is what `riff::steps` gives for a number x
 module _ (x : Float) (f : fits binary32 x ≡ true) (r : ne x x ≡ false) (n : ℕ) (is : n ≡ away (toBits binary32 x)) where
   level : levelOf x ≡ held (leb (2 ^ 31) (toBits binary32 x)) n
-  level = by-bits x (subst T (sym f) tt) (real x r) ∙ ap (held (leb (2 ^ 31) (toBits binary32 x))) (sym is)
+  level = by-bits x (subst T (sym f) tt) (real-of-same x r) ∙ ap (held (leb (2 ^ 31) (toBits binary32 x))) (sym is)
 
   pub upward : toBits binary32 x < 2 ^ 31 → min n 32767 ≡ bits16 (levelOf x)
   upward l = rw (level, lt-leb (2 ^ 31) (toBits binary32 x) l)

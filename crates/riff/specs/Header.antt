@@ -34,23 +34,23 @@ dataBytes frames = 4608 * frames
 
 -- the format chunk after its name: its length, PCM, two channels, samples a second, bytes a second, bytes of a sample of both
 -- channels, bits of a sample
-abbrev pub formatOf : ℕ → List ℕ
-formatOf rate = le32 16 ++ le16 1 ++ le16 2 ++ le32 rate ++ le32 (4 * rate) ++ le16 4 ++ le16 16
+abbrev pub formatChunkOf : ℕ → List ℕ
+formatChunkOf rate = le32 16 ++ le16 1 ++ le16 2 ++ le32 rate ++ le32 (4 * rate) ++ le16 4 ++ le16 16
 
 -- the RIFF chunk's length is that of what follows it: 36 bytes of this header, and the data
-unfoldable pub headerOf : ℕ → ℕ → List ℕ
-headerOf frames rate =
-    riffName ++ le32 (36 + dataBytes frames) ++ waveName ++ formatName ++ formatOf rate ++ dataName ++ le32 (dataBytes frames)
+unfoldable pub waveHeaderOf : ℕ → ℕ → List ℕ
+waveHeaderOf frames rate =
+    riffName ++ le32 (36 + dataBytes frames) ++ waveName ++ formatName ++ formatChunkOf rate ++ dataName ++ le32 (dataBytes frames)
 
 -- E1: "A stream with no frame gives a file with no samples and rate 44100."
-pub no-samples : headerOf 0 44100 ≡
+pub no-samples : waveHeaderOf 0 44100 ≡
     82 ∷ 73 ∷ 70 ∷ 70 ∷ 36 ∷ 0 ∷ 0 ∷ 0 ∷ 87 ∷ 65 ∷ 86 ∷ 69 ∷ 102 ∷ 109 ∷ 116 ∷ 32 ∷ 16 ∷ 0 ∷ 0 ∷ 0 ∷ 1 ∷ 0 ∷ 2 ∷ 0
     ∷ 68 ∷ 172 ∷ 0 ∷ 0 ∷ 16 ∷ 177 ∷ 2 ∷ 0 ∷ 4 ∷ 0 ∷ 16 ∷ 0 ∷ 100 ∷ 97 ∷ 116 ∷ 97 ∷ 0 ∷ 0 ∷ 0 ∷ 0 ∷ []
-unfolding headerOf
+unfolding waveHeaderOf
 no-samples = refl
 
-pub length-header : (frames rate : ℕ) → length (headerOf frames rate) ≡ 44
-unfolding headerOf
+pub length-header : (frames rate : ℕ) → length (waveHeaderOf frames rate) ≡ 44
+unfolding waveHeaderOf
 length-header frames rate = refl
 
 -- the number that bytes stand for, low byte first
@@ -69,9 +69,9 @@ le32-back n h =
 
 -- E1: "Lengths in the header are exact": of the bytes after the first eight, and of the samples
 pub lengths-exact : (frames rate : ℕ) → frames ≤ 900000
-    → (valueOf (take 4 (drop 4 (headerOf frames rate))) ≡ length (headerOf frames rate) - 8 + dataBytes frames)
-    × (valueOf (take 4 (drop 40 (headerOf frames rate))) ≡ dataBytes frames)
-unfolding headerOf
+    → (valueOf (take 4 (drop 4 (waveHeaderOf frames rate))) ≡ length (waveHeaderOf frames rate) - 8 + dataBytes frames)
+    × (valueOf (take 4 (drop 40 (waveHeaderOf frames rate))) ≡ dataBytes frames)
+unfolding waveHeaderOf
 lengths-exact frames rate h = (le32-back (36 + dataBytes frames) (omega arith), le32-back (dataBytes frames) (omega arith))
 
 -- bytes with the four of a number stored from a place on: what `riff::put` does

@@ -4,7 +4,7 @@ ghost use mathlib.Core.Path.{_≡_};
 ghost use Prim.Native.Nat.{_+_, _*_, _/_, _%_, _^_, _<_, _≤_, min};
 ghost use lib.ListN.{length};
 ghost use Rattle.riff.specs.Level.{halfUp, levelOf, bits16, pcmOf};
-ghost use Rattle.riff.specs.Header.{putAt, headerOf};
+ghost use Rattle.riff.specs.Header.{putAt, waveHeaderOf};
 
 // 1.0, in steps of 1/32768.
 const FULL: u32 = 32768;
@@ -102,7 +102,7 @@ fn put(bytes: &mut [u8; 44], at: usize, n: u32)
 // The header of a file with that many frames, at that many samples a second.
 pub fn header(frames: u32, rate: u32) -> [u8; 44]
     requires { ⌜ (frames ≤ 900000) × (rate ≤ 1000000) ⌝ }
-    ensures { λ r. ⌜ r ≡ headerOf frames rate ⌝ }
+    ensures { λ r. ⌜ r ≡ waveHeaderOf frames rate ⌝ }
     ensures { λ r. ⌜ 44 ≡ length r ⌝ }
 {
     let data = 4608 * frames;

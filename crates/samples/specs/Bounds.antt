@@ -48,9 +48,9 @@ first m n b t = leb→le m n (and-left (leb m n) b t)
 others : (m n : ℕ) (b : Bool) → T (leb m n && b) → T b
 others m n b t = and-right (leb m n) b t
 
-pub ranged : (q : ℕ) → 0 < q → q < 18 → Range q
+pub quantiser-range : (q : ℕ) → 0 < q → q < 18 → Range q
 unfolding limitTest mostOf scaleOf adjOf levelsOf codeBitsOf groupedOf quantisationOf classes
-ranged q p h =
+quantiser-range q p h =
     let a = or-left (limits q) (eqb q 0) (below limitTest 18 tt q h) (λ k. let e : q ≡ 0 = eqb→eq q 0 k in omega arith) in
     let b = others (levelsOf q) (mostOf q + 1) _ a in
     let c = others (mostOf q) 65535 _ b in
@@ -100,7 +100,7 @@ scaled-small val factor h g =
 
 pub sample-small : (q code factor : ℕ) → 0 < q → q < 18 → code ≤ mostOf q → factor ≤ 33554432 → natAbs (sampleOf (levelsOf q) code factor) ≤ 104848
 unfolding sampleOf
-sample-small q code factor p h c f = scaled-small _ factor (centred-small q code (ranged q p h) c) f
+sample-small q code factor p h c f = scaled-small _ factor (centred-small q code (quantiser-range q p h) c) f
 
 pub factor-small : (index : ℕ) → index < 64 → factorOf index ≤ 33554432
 unfolding factorOf

@@ -36,8 +36,8 @@ factorsOf (suc zero) place factor = ask 6 λ a. ask 6 λ b. done (three place (f
 factorsOf (suc (suc zero)) place factor = ask 6 λ a. done (three place (factorOf a) (factorOf a) (factorOf a) factor)
 factorsOf (suc (suc (suc n))) place factor = ask 6 λ a. ask 6 λ b. done (three place (factorOf a) (factorOf b) (factorOf b) factor)
 
-abbrev pub scaleOf : List ℕ → List ℕ → ℕ → List ℕ → Reads (List ℕ)
-scaleOf quant selector = allocatedOf quant (λ place. factorsOf (getD selector place 0) place)
+abbrev pub placeFactorsOf : List ℕ → List ℕ → ℕ → List ℕ → Reads (List ℕ)
+placeFactorsOf quant selector = allocatedOf quant (λ place. factorsOf (getD selector place 0) place)
 
 -- what stands before the codes: a quantiser for each place, and a factor for each part and place
 pub record Side : Type 0 where
@@ -51,7 +51,7 @@ abbrev pub selectorsOf : Bool → List ℕ → ℕ → List ℕ → Reads (List 
 selectorsOf mono quant limit = bands (channelsOf mono (allocatedOf quant selectorOf)) limit
 
 abbrev pub scaleFactorsOf : Bool → List ℕ → List ℕ → ℕ → List ℕ → Reads (List ℕ)
-scaleFactorsOf mono quant selector limit = bands (channelsOf mono (scaleOf quant selector)) limit
+scaleFactorsOf mono quant selector limit = bands (channelsOf mono (placeFactorsOf quant selector)) limit
 
 unfoldable pub sideOf : Bool → ℕ → ℕ → ℕ → Reads Side
 sideOf mono table bound limit =

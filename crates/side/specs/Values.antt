@@ -3,20 +3,21 @@
 use Prim.Native.Nat.{ℕ, zero, suc, _+_, _^_, _≤_, _<_}
 use mathlib.Core.Path.{_≡_}
 use mathlib.Core.Bool.{Bool}
-use mathlib.Core.List.{List, [], _∷_}
+use mathlib.Core.List.{List}
 use native.Mathlib.Omega.{arith}
 use borrow.Author.Tests.{eqb-false}
 use lib.Dec.{eqb, lit<}
 use lib.ListN.{getD, set, replicate}
 use Rattle.ground.specs.Tests.{by-test}
-use Rattle.grammar.specs.Reads.{Reads, done, ask}
+use Rattle.ground.specs.Entries.{each-after-set, copies-at}
+use Rattle.grammar.specs.Reads.{Reads, done}
 use Rattle.grammar.specs.Values.{Always, always-bind, anything, always-anything}
 use Rattle.tables.specs.Laws.{quantiser<18}
 use Rattle.samples.specs.Sample.{factorOf}
 use Rattle.samples.specs.Bounds.{factor-small}
 use Rattle.side.specs.Below.{Below}
 use Rattle.side.specs.Bands.{bands, pairOf, channelsOf, allocatedOf, three}
-use Rattle.side.specs.Side.{allocationOf, allocationBandOf, selectorsOf, factorsOf, scaleOf, Side, sideOf}
+use Rattle.side.specs.Side.{allocationOf, allocationBandOf, selectorsOf, factorsOf, placeFactorsOf, Side, sideOf}
 
 -- what each subband keeps, all of them keep
 module _ {A : Type 0} (P : A → Type 0) where
@@ -45,26 +46,14 @@ module _ {A : Type 0} (P : A → Type 0) where
   channels-always mono one h sb = pair-always _ (one sb) (one (sb + 32)) (λ xs. xs) (h sb) (h (sb + 32)) (λ xs p. p)
 
 -- stores into a list whose entries are below m
-set-each : (m : ℕ) (xs : List ℕ) (k v : ℕ) → ((i : ℕ) → getD xs i 0 < m) → v < m → (i : ℕ) → getD (set xs k v) i 0 < m
-set-each m [] k v p q i = p i
-set-each m (x ∷ xs) zero v p q zero = q
-set-each m (x ∷ xs) zero v p q (suc i) = p (suc i)
-set-each m (x ∷ xs) (suc k) v p q zero = p 0
-set-each m (x ∷ xs) (suc k) v p q (suc i) = set-each m xs k v (λ j. p (suc j)) q i
-
 set-below : (m : ℕ) (xs : List ℕ) (k v : ℕ) → Below m xs → v < m → Below m (set xs k v)
-set-below m xs k v p q = record { each = set-each m xs k v (p .each) q }
+set-below m xs k v p q = record { each = each-after-set (λ x. x < m) 0 xs k v (p .each) q }
 
 three-below : (m : ℕ) (xs : List ℕ) (place a b c : ℕ) → Below m xs → a < m → b < m → c < m → Below m (three place a b c xs)
 three-below m xs place a b c p h g k = set-below m _ (place + 128) c (set-below m _ (place + 64) b (set-below m xs place a p h) g) k
 
-zeros-each : (m n : ℕ) → 0 < m → (i : ℕ) → getD (replicate n 0) i 0 < m
-zeros-each m zero h i = h
-zeros-each m (suc n) h zero = h
-zeros-each m (suc n) h (suc i) = zeros-each m n h i
-
 zeros-below : (m n : ℕ) → 0 < m → Below m (replicate n 0)
-zeros-below m n h = record { each = zeros-each m n h }
+zeros-below m n h = record { each = λ i. rw (copies-at {A = ℕ} 0 n i) h }
 
 -- quantisers
 allocation-below : (table sb place : ℕ) (xs : List ℕ) → Below 18 xs → Always (Below 18) (allocationOf table sb place xs)
@@ -89,19 +78,20 @@ factors-below (suc (suc zero)) place xs p = λ a ha. three-below _ xs place _ _ 
 factors-below (suc (suc (suc n))) place xs p = λ a ha b hb. three-below _ xs place _ _ _ p (factor< a ha) (factor< b hb) (factor< b hb)
 
 -- the side information
-pub record Ranged (side : Side) : Type 0 where
+pub record SideInRange (side : Side) : Type 0 where
   pub quant : Below 18 (side .quant)
   pub factor : Below 33554433 (side .factor)
 
-pub side-ranged : (mono : Bool) (table bound limit : ℕ) → Always Ranged (sideOf mono table bound limit)
+pub side-ranged : (mono : Bool) (table bound limit : ℕ) → Always SideInRange (sideOf mono table bound limit)
 unfolding sideOf Always
 side-ranged mono table bound limit =
-    always-bind (Below 18) Ranged _ _
-    (bands-always (Below 18) (allocationBandOf table bound) limit (λ sb _. allocation-band-below table bound sb) limit (omega arith) _ (zeros-below 18 64 (lit< tt)))
-    (λ quant p. always-bind anything Ranged _ _ (always-anything (selectorsOf mono quant limit (replicate 64 0)))
-    (λ selector _. always-bind (Below 33554433) Ranged _ _
+    always-bind (Below 18) SideInRange _ _
+    (bands-always (Below 18) (allocationBandOf table bound) limit (λ sb _. allocation-band-below table bound sb)
+    limit (omega arith) _ (zeros-below 18 64 (lit< tt)))
+    (λ quant p. always-bind anything SideInRange _ _ (always-anything (selectorsOf mono quant limit (replicate 64 0)))
+    (λ selector _. always-bind (Below 33554433) SideInRange _ _
     (bands-always (Below 33554433) _ limit
-    (λ sb _. channels-always (Below 33554433) mono (scaleOf quant selector)
+    (λ sb _. channels-always (Below 33554433) mono (placeFactorsOf quant selector)
     (λ place. allocated-always (Below 33554433) quant (λ k. factorsOf (getD selector k 0) k) place (λ _. factors-below (getD selector place 0) place)) sb)
     limit (omega arith) _ (zeros-below 33554433 192 (lit< tt)))
     (λ factor q. record { quant = p; factor = q })))

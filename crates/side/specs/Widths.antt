@@ -11,7 +11,7 @@ use Rattle.grammar.specs.Reads.{Reads, done}
 use Rattle.grammar.specs.Widths.{Narrow, narrow-bind}
 use Rattle.tables.specs.Laws.{width≤4}
 use Rattle.side.specs.Bands.{bands, pairOf, channelsOf, allocatedOf}
-use Rattle.side.specs.Side.{allocationOf, allocationBandOf, selectorOf, factorsOf, scaleOf, sideOf}
+use Rattle.side.specs.Side.{allocationOf, allocationBandOf, selectorOf, factorsOf, placeFactorsOf, sideOf}
 
 module _ {A : Type 0} where
   pub bands-narrow : (band : ℕ → A → Reads A) → ((sb : ℕ) (xs : A) → Narrow (band sb xs)) → (n : ℕ) (xs : A) → Narrow (bands band n xs)
@@ -63,7 +63,7 @@ side-narrow mono table bound limit =
     (bands-narrow _ (channels-narrow mono (allocatedOf quant selectorOf) (allocated-narrow quant selectorOf selector-narrow)) limit _)
     (λ selector. narrow-bind _ _
     (bands-narrow _
-    (channels-narrow mono (scaleOf quant selector)
+    (channels-narrow mono (placeFactorsOf quant selector)
     (allocated-narrow quant (λ k. factorsOf (getD selector k 0) k) (λ k. factors-narrow (getD selector k 0) k)))
     limit _)
     (λ _. tt)))

@@ -5,7 +5,7 @@ ghost use Prim.Native.Nat.{_≤_, _<_};
 ghost use Rattle.grammar.specs.Reads.{run, ran};
 ghost use Rattle.tables.specs.Source.{step4};
 ghost use Rattle.side.specs.Bands.{three, channelsOf, allocatedOf};
-ghost use Rattle.side.specs.Side.{cutOf, allocationOf, allocationBandOf, allocationsOf, selectorOf, selectorsOf, factorsOf, scaleOf, scaleFactorsOf, sideOf};
+ghost use Rattle.side.specs.Side.{cutOf, allocationOf, allocationBandOf, allocationsOf, selectorOf, selectorsOf, factorsOf, placeFactorsOf, scaleFactorsOf, sideOf};
 ghost use Rattle.side.specs.Below.{sideWith};
 
 // The bound, no higher than the limit.
@@ -104,7 +104,8 @@ fn selector_band(
     selector: &mut [u8; 64],
 ) -> Reader
     requires { ⌜ sb < 32 ⌝ }
-    ensures { λ r. ⌜ ran (now (selector .exit)) r ≡ run (channelsOf mono (allocatedOf (now (quant .entry)) selectorOf) sb (now (selector .entry))) (now (s .entry)) reader ⌝ }
+    ensures { λ r. ⌜ ran (now (selector .exit)) r
+        ≡ run (channelsOf mono (allocatedOf (now (quant .entry)) selectorOf) sb (now (selector .entry))) (now (s .entry)) reader ⌝ }
 {
     let left = read_selector(reader, s, quant, sb, selector);
     if mono {
@@ -187,7 +188,8 @@ fn read_scale(
     factor: &mut [u32; 192],
 ) -> Reader
     requires { ⌜ place < 64 ⌝ }
-    ensures { λ r. ⌜ ran (now (factor .exit)) r ≡ run (scaleOf (now (quant .entry)) (now (selector .entry)) place (now (factor .entry))) (now (s .entry)) reader ⌝ }
+    ensures { λ r. ⌜ ran (now (factor .exit)) r
+        ≡ run (placeFactorsOf (now (quant .entry)) (now (selector .entry)) place (now (factor .entry))) (now (s .entry)) reader ⌝ }
 {
     if quant[place] == 0 {
         return reader;
@@ -205,7 +207,8 @@ fn scale_band(
     factor: &mut [u32; 192],
 ) -> Reader
     requires { ⌜ sb < 32 ⌝ }
-    ensures { λ r. ⌜ ran (now (factor .exit)) r ≡ run (channelsOf mono (scaleOf (now (quant .entry)) (now (selector .entry))) sb (now (factor .entry))) (now (s .entry)) reader ⌝ }
+    ensures { λ r. ⌜ ran (now (factor .exit)) r
+        ≡ run (channelsOf mono (placeFactorsOf (now (quant .entry)) (now (selector .entry))) sb (now (factor .entry))) (now (s .entry)) reader ⌝ }
 {
     let left = read_scale(reader, s, quant, selector, sb, factor);
     if mono {
@@ -224,7 +227,8 @@ fn scale_factors(
     factor: &mut [u32; 192],
 ) -> Reader
     requires { ⌜ limit ≤ 32 ⌝ }
-    ensures { λ r. ⌜ ran (now (factor .exit)) r ≡ run (scaleFactorsOf mono (now (quant .entry)) (now (selector .entry)) limit (now (factor .entry))) (now (s .entry)) reader ⌝ }
+    ensures { λ r. ⌜ ran (now (factor .exit)) r
+        ≡ run (scaleFactorsOf mono (now (quant .entry)) (now (selector .entry)) limit (now (factor .entry))) (now (s .entry)) reader ⌝ }
 {
     let mut next = reader;
     let mut sb = 0;

@@ -14,22 +14,22 @@ use lib.IntN.{ℤ, pos}
 use lib.ListN.{length, getD, set, replicate, length-set, length-replicate, length-append}
 use lib.Pow.{pow-pos, pow-mono}
 use lib.Seq.{getD-set-same, getD-set-other}
-use Rattle.ground.specs.Entries.{each, entry}
+use Rattle.ground.specs.Entries.{entry}
 use Rattle.ground.specs.Upto.{upto, below, below2, and-left, and-right, or-left}
 use Rattle.buffer.specs.declared.Reader.{Reader}
 use Rattle.grammar.specs.Reads.{Reads, done, ask, _>>=_, Ran, ran, run}
 use Rattle.grammar.specs.Run.{run-bind}
 use Rattle.tables.specs.Standard.{Table, B2a, B2b, B2c, B2d, rowOf, rowsOf, stepsOf, sblimit, classes, quantisationOf, levelsOf, codeBitsOf, groupedOf}
-use Rattle.tables.specs.Source.{step4, rowOf as sourceRow, quantiserOf}
-use Rattle.tables.specs.Differences.{numberOf, listed, same-width, differs-only}
+use Rattle.tables.specs.Source.{step4, sourceRowOf, quantiserOf}
+use Rattle.tables.specs.Differences.{numberOf, differsAt, same-width, differs-only}
 use Rattle.tables.specs.Laws.{width≤4, quantiser<18, sblimit≤30}
 use Rattle.samples.specs.Sample.{factorOf}
 use Rattle.side.specs.Bands.{bands, channelsOf, allocatedOf, three}
 use Rattle.side.specs.Side.{Side, allocationOf, allocationBandOf, allocationsOf, selectorOf, factorsOf, sideOf}
-use Rattle.codes.specs.Frame.{singlesOf, codesOf, samplesOf, placeOf, copied, sampleBandOf, granuleOf, granulesOf, frameOf}
+use Rattle.codes.specs.Frame.{singlesOf, codesOf, threeSamplesOf, placeOf, copied, sampleBandOf, granuleOf, granulesOf, frameOf}
 use Rattle.standard.specs.Related.{Related, related-run, related-cond, related-bind, related-assoc, related-done, related-made, related-bands, related-pair, Twin, twin-replicate, twin-set}
-use Rattle.standard.specs.Layer2.{allocation, allocationBand, allocations, scfsi, scalefactors, Code, grouped, single, none, Fields, find, classFor, code, codeAt, codeBand, granules, afterAllocations, audioData}
-use Rattle.standard.specs.Made.{digits, place, placed, band, made, madeFrom, samplesBy01}
+use Rattle.standard.specs.Layer2.{allocation, allocationBand, allocations, scfsi, scalefactors, Code, grouped, single, none, AudioFields, find, classFor, code, codeAt, codeBand, granules, afterAllocations, audioData}
+use Rattle.standard.specs.Made.{codeDigits, samplesAt, placed, band, made, madeFrom, samplesBy01}
 
 -- ---- what goes through both channels, and what is there only where something is allocated
 
@@ -52,13 +52,13 @@ related-allocated Q quant a one one′ at xs ys e f g =
 
 zero-quantiser : (table sb : ℕ) → quantiserOf table sb 0 ≡ 0
 unfolding quantiserOf
-zero-quantiser table sb = eqb→eq _ _ (entry (λ row. eqb (getD row 0 0) 0) [] step4 tt tt (sourceRow table sb % 16))
+zero-quantiser table sb = eqb→eq _ _ (entry (λ row. eqb (getD row 0 0) 0) [] step4 tt tt (sourceRowOf table sb % 16))
 
 someTest : Table → ℕ → ℕ → Bool
 someTest t sb v = (ltb 0 (quantiserOf (numberOf t) sb v) || eqb v 0) || leb (2 ^ rowOf t sb .nbal) v
 
 some-hold : (t : Table) → T (upto (λ (sb : ℕ). upto (someTest t sb) 16) (sblimit t))
-unfolding someTest quantiserOf sourceRow rowOf rowsOf sblimit
+unfolding someTest quantiserOf sourceRowOf rowOf rowsOf sblimit
 some-hold B2a = tt
 some-hold B2b = tt
 some-hold B2c = tt
@@ -114,7 +114,8 @@ module _ (t : Table) where
       (λ x. set x (sb + 32) (getD x sb 0)) (allocation t sb sb) (allocation t sb (sb + 32)) (λ y. set y (sb + 32) (getD y sb 0)) xs ys
       (allocation-related sb sb h low xs ys p)
       (λ x y q _. allocation-related sb (sb + 32) h high x y q)
-      (λ x y q _. twin-set 0 0 (Alloc t) x y q (sb + 32) (getD x sb 0) (getD y sb 0) (subst (λ (k : ℕ). (getD x sb 0 ≡ quantiserOf (numberOf t) k (getD y sb 0)) × (getD y sb 0 < 2 ^ rowOf t k .nbal)) (low ∙ sym high) (q .each sb))))
+      (λ x y q _. twin-set 0 0 (Alloc t) x y q (sb + 32) (getD x sb 0) (getD y sb 0)
+      (subst (λ (k : ℕ). (getD x sb 0 ≡ quantiserOf (numberOf t) k (getD y sb 0)) × (getD y sb 0 < 2 ^ rowOf t k .nbal)) (low ∙ sym high) (q .each sb))))
       (sblimit t) (omega arith) (replicate 64 0) (replicate 64 0)
       (twin-replicate 0 0 (Alloc t) (λ i. (sym (zero-quantiser (numberOf t) (i % 32)), pow-pos _)) 64)
 
@@ -189,14 +190,15 @@ class-found q h =
 
 -- the three samples of a place, whatever Q says of them
 samples-related : (Q : List ℤ → List Code → Type 0) (q factor at : ℕ) (xs : List ℤ) (cs : List Code) → q < 18
-    → ((c : Code) → Q (place (levelsOf q) factor (digits (levelsOf q) c) at xs) (set cs at c))
-    → Related Q (samplesOf q factor at xs) (code (classFor (levelsOf q)) at cs)
-unfolding samplesOf codesOf singlesOf code Related _>>=_
+    → ((c : Code) → Q (samplesAt (levelsOf q) factor (codeDigits (levelsOf q) c) at xs) (set cs at c))
+    → Related Q (threeSamplesOf q factor at xs) (code (classFor (levelsOf q)) at cs)
+unfolding threeSamplesOf codesOf singlesOf code Related _>>=_
 samples-related Q q factor at xs cs h k =
     let f = class-found q h in rw (← f .0) (by (groupedOf q) (f .1))
   where
     by : (b : Bool) → codeBitsOf q ≡ classFor (levelsOf q) .bits
-        → Related Q (cond b (ask (codeBitsOf q) λ v. done (digits (levelsOf q) (grouped v))) (singlesOf (codeBitsOf q)) >>= λ d. done (place (levelsOf q) factor d at xs))
+        → Related Q (cond b (ask (codeBitsOf q) λ v. done (codeDigits (levelsOf q) (grouped v))) (singlesOf (codeBitsOf q))
+        >>= λ d. done (samplesAt (levelsOf q) factor d at xs))
         (cond b (ask (classFor (levelsOf q) .bits) λ v. done (set cs at (grouped v)))
         (ask (classFor (levelsOf q) .bits) λ x. ask (classFor (levelsOf q) .bits) λ y. ask (classFor (levelsOf q) .bits) λ z. done (set cs at (single x y z))))
     by true w = (w, λ v _. k (grouped v))
@@ -204,7 +206,7 @@ samples-related Q q factor at xs cs h k =
 
 -- no allocation is the one that the source has otherwise: docs/DIFFERENCES.md, S1
 unfoldable pub Unlisted : Table → List ℕ → Type 0
-Unlisted t a = (at : ℕ) → at % 32 < sblimit t → listed t (at % 32) (getD a at 0) ≡ false
+Unlisted t a = (at : ℕ) → at % 32 < sblimit t → differsAt t (at % 32) (getD a at 0) ≡ false
 
 module _ (t : Table) (quant a : List ℕ) (both : Allocs t quant a) (clean : Unlisted t a) (factor f : List ℕ)
     (fs : Twin 0 63 (λ _ x v. x ≡ factorOf v) factor f) (bound part : ℕ) where
@@ -215,7 +217,9 @@ module _ (t : Table) (quant a : List ℕ) (both : Allocs t quant a) (clean : Unl
   unfolding Allocs Alloc Unlisted
   same-levels sb at h e =
       let x = both .each at in
-      ap levelsOf (x .0) ∙ differs-only t (at % 32) (getD a at 0) (omega arith) (x .1) .same (clean at (omega arith)) ∙ ap (λ (k : ℕ). stepsOf t k (getD a at 0)) e
+      ap levelsOf (x .0)
+      ∙ differs-only t (at % 32) (getD a at 0) (omega arith) (x .1) .same (clean at (omega arith))
+      ∙ ap (λ (k : ℕ). stepsOf t k (getD a at 0)) e
 
   few-quantisers : (at : ℕ) → getD quant at 0 < 18
   unfolding Allocs Alloc
@@ -228,12 +232,13 @@ module _ (t : Table) (quant a : List ℕ) (both : Allocs t quant a) (clean : Unl
   unfolding placeOf codeAt placed
   place-related sb at h e l base xs cs long is apart =
       let Q : List ℤ → List Code → Type 0 = λ ys ds. (length ds ≡ 64) × (ys ≡ placed t a f bound part sb at (getD ds at none) (base ds)) in
-      related-allocated Q quant a (λ k. samplesOf (getD quant k 0) (getD factor (part * 64 + k) 0) k) (λ k. code (classFor (stepsOf t sb (getD a k 0))) k) at xs cs
+      related-allocated Q quant a (λ k. threeSamplesOf (getD quant k 0) (getD factor (part * 64 + k) 0) k)
+      (λ k. code (classFor (stepsOf t sb (getD a k 0))) k) at xs cs
       (same-allocated t quant a both sb at h e)
       (λ z. (long, simp z is))
       (λ z. subst
-      (λ (n : ℕ). ((c : Code) → Q (place n (getD factor (part * 64 + at) 0) (digits n c) at xs) (set cs at c))
-      → Related Q (samplesOf (getD quant at 0) (getD factor (part * 64 + at) 0) at xs) (code (classFor n) at cs))
+      (λ (n : ℕ). ((c : Code) → Q (samplesAt n (getD factor (part * 64 + at) 0) (codeDigits n c) at xs) (set cs at c))
+      → Related Q (threeSamplesOf (getD quant at 0) (getD factor (part * 64 + at) 0) at xs) (code (classFor n) at cs))
       (same-levels sb at h e) (samples-related Q (getD quant at 0) (getD factor (part * 64 + at) 0) at xs cs (few-quantisers at))
       (λ c. (length-set cs at c ∙ long, rw (z, getD-set-same cs at c none (omega arith), apart c, ← is, fs .each (part * 64 + at)))))
 
@@ -242,7 +247,9 @@ module _ (t : Table) (quant a : List ℕ) (both : Allocs t quant a) (clean : Unl
   unfolding made
   made-below cs at c zero h l = refl
   made-below cs at c (suc n) h l =
-      rw (getD-set-other cs at n c none (λ e. omega arith), getD-set-other cs at (n + 32) c none (λ e. omega arith), made-below cs at c n (omega arith) (omega arith))
+      let left = getD-set-other cs at n c none (λ e. omega arith) in
+      let right = getD-set-other cs at (n + 32) c none (λ e. omega arith) in
+      rw (left, right, made-below cs at c n (omega arith) (omega arith))
 
   Granule : ℕ → List ℤ → List Code → Type 0
   Granule n xs cs = (length cs ≡ 64) × (xs ≡ made t a f bound part cs n)
@@ -298,7 +305,9 @@ module _ (t : Table) (quant a : List ℕ) (both : Allocs t quant a) (clean : Unl
       (granule-related t quant a both clean factor f fs bound (g / 4))
       (λ y ds q. (
         length-append cs (ds ∷ []) ∙ omega (arith, m .0),
-        rw (m .1, q .1) (ap (λ (k : ℕ). madeFrom t a f bound 0 cs ++ (made t a f bound (k / 4) ds (sblimit t) ∷ [])) (omega (arith, m .0)) ∙ sym (snoc t a f bound 0 cs ds)),
+        rw (m .1, q .1)
+            (ap (λ (k : ℕ). madeFrom t a f bound 0 cs ++ (made t a f bound (k / 4) ds (sblimit t) ∷ [])) (omega (arith, m .0))
+            ∙ sym (snoc t a f bound 0 cs ds)),
       )))
 
 -- what the port reads after the allocations
@@ -309,10 +318,11 @@ rest mono bound limit quant =
     done (record { quant = quant; factor = factor })
 
 rest-related : (mono : Bool) (t : Table) (bound : ℕ) (quant a : List ℕ) → Allocs t quant a → Unlisted t a
-    → Related (λ xs x. xs ≡ samplesBy01 t bound x) (rest mono bound (sblimit t) quant >>= λ side. granulesOf side bound (sblimit t) 12) (afterAllocations mono t bound a)
+    → Related (λ xs x. xs ≡ samplesBy01 t bound x) (rest mono bound (sblimit t) quant >>= λ side. granulesOf side bound (sblimit t) 12)
+    (afterAllocations mono t bound a)
 unfolding afterAllocations samplesBy01 Factors Made Related
 rest-related mono t bound quant a both clean =
-    let Q : List (List ℤ) → Fields → Type 0 = λ xs x. xs ≡ samplesBy01 t bound x in
+    let Q : List (List ℤ) → AudioFields → Type 0 = λ xs x. xs ≡ samplesBy01 t bound x in
     related-assoc Q _ _ _ _
     (related-bind _≡_ Q _ _ _ _ (selectors-related t quant a both mono)
     (λ selector c e. related-assoc Q _ _ _ _
@@ -325,7 +335,7 @@ rest-related mono t bound quant a both clean =
 
 kept : (mono : Bool) (t : Table) (bound : ℕ) (a : List ℕ) (s : List ℕ) (r : Reader) → run (afterAllocations mono t bound a) s r .value .allocation ≡ a
 unfolding afterAllocations run
-kept mono t bound a s r = ap (λ (z : Ran Fields). z .value .allocation) (run-bind _ _ s r ∙ run-bind _ _ s _ ∙ run-bind _ _ s _)
+kept mono t bound a s r = ap (λ (z : Ran AudioFields). z .value .allocation) (run-bind _ _ s r ∙ run-bind _ _ s _ ∙ run-bind _ _ s _)
 
 -- The frame of the standard, read by the port: to the same bit, and 01's formulas over the standard's fields and codes
 pub the-standards-frame : (mono : Bool) (t : Table) (bound : ℕ) (s : List ℕ) (r : Reader)
@@ -333,10 +343,11 @@ pub the-standards-frame : (mono : Bool) (t : Table) (bound : ℕ) (s : List ℕ)
     → run (frameOf mono (numberOf t) bound (sblimit t)) s r ≡ ran (samplesBy01 t bound (x .value)) (x .next)
 unfolding audioData frameOf sideOf
 the-standards-frame mono t bound s r clean =
-    let ours = run (allocationsOf (numberOf t) bound (sblimit t) (replicate 64 0)) s r in
+    let port = allocationsOf (numberOf t) bound (sblimit t) (replicate 64 0) in
+    let ours = run port s r in
     let theirs = run (allocations t bound) s r in
     let granular : Side → Reads (List (List ℤ)) = λ side. granulesOf side bound (sblimit t) 12 in
-    let first = related-run (Allocs t) (allocationsOf (numberOf t) bound (sblimit t) (replicate 64 0)) (allocations t bound) (allocations-related t bound) s r in
+    let first = related-run (Allocs t) port (allocations t bound) (allocations-related t bound) s r in
     let e : run (audioData mono t bound) s r ≡ run (afterAllocations mono t bound (theirs .value)) s (theirs .next) = run-bind _ _ s r in
     let same : run (audioData mono t bound) s r .value .allocation ≡ theirs .value =
     ap (λ z. z .value .allocation) e ∙ kept mono t bound (theirs .value) s (theirs .next) in

@@ -62,7 +62,7 @@ granules t a bound (suc g) =
     granules t a bound g >>= λ xs. bands (codeBand t a bound) (sblimit t) (replicate 64 none) >>= λ x. done (xs ++ (x ∷ []))
 
 -- what the audio data hold. A place with no scale factor has 63: Table B.1 ends at 62
-pub record Fields : Type 0 where
+pub record AudioFields : Type 0 where
   pub allocation : List ℕ
   pub scfsi : List ℕ
   pub scalefactor : List ℕ
@@ -71,11 +71,11 @@ pub record Fields : Type 0 where
 abbrev pub allocations : Table → ℕ → Reads (List ℕ)
 allocations t bound = bands (allocationBand t bound) (sblimit t) (replicate 64 0)
 
-unfoldable pub afterAllocations : Bool → Table → ℕ → List ℕ → Reads Fields
+unfoldable pub afterAllocations : Bool → Table → ℕ → List ℕ → Reads AudioFields
 afterAllocations mono t bound a =
     bands (channelsOf mono (allocatedOf a scfsi)) (sblimit t) (replicate 64 0) >>= λ c.
     bands (channelsOf mono (allocatedOf a (λ place. scalefactors (getD c place 0) place))) (sblimit t) (replicate 192 63) >>= λ f.
     granules t a bound 12 >>= λ g. done (record { allocation = a; scfsi = c; scalefactor = f; codes = g })
 
-unfoldable pub audioData : Bool → Table → ℕ → Reads Fields
+unfoldable pub audioData : Bool → Table → ℕ → Reads AudioFields
 audioData mono t bound = allocations t bound >>= afterAllocations mono t bound

@@ -5,13 +5,13 @@ use mathlib.Core.Path.{_≡_, refl, sym}
 use native.Mathlib.Nat.{mod-eq-of-lt, div-lt-iff-lt-mul}
 use lib.IntN.{negsuc}
 use Rattle.tables.specs.Standard.{B2c, rowsOf, rowOf, stepsOf, classes, quantisationOf, levelsOf}
-use Rattle.tables.specs.Source.{rowOf as sourceRow, quantiserOf}
+use Rattle.tables.specs.Source.{sourceRowOf, quantiserOf}
 use Rattle.tables.specs.Differences.{taken}
 use Rattle.samples.specs.Sample.{scaleOf, adjOf, scaledBy, sampleOf, factorOf, digitsOf}
 
 -- S1: allocation 15 of Tables B.2c and B.2d, subbands 0 and 1. `differs-only` in tables says that no other entry differs
 pub entry-15 : (taken B2c 0 15 ≡ 65535) × (stepsOf B2c 0 15 ≡ 32767)
-unfolding quantiserOf sourceRow levelsOf quantisationOf classes stepsOf rowOf rowsOf
+unfolding quantiserOf sourceRowOf levelsOf quantisationOf classes stepsOf rowOf rowsOf
 entry-15 = (refl, refl)
 
 -- S7: Table B.1 ends at 62; the source takes 63 as silence

@@ -12,23 +12,23 @@ use Rattle.samples.specs.Sample.{sampleOf, digitsOf, factorOf}
 use Rattle.samples.specs.declared.Three.{Three}
 use Rattle.side.specs.Bands.{three}
 use Rattle.codes.specs.Frame.{copied}
-use Rattle.standard.specs.Layer2.{Fields, Code, grouped, single, none}
+use Rattle.standard.specs.Layer2.{AudioFields, Code, grouped, single, none}
 
 -- "first digit the remainder by the levels, then again, the third is the last quotient"
-abbrev pub digits : ℕ → Code → Three
-digits steps (grouped v) = digitsOf steps v
-digits steps (single x y z) = record { first = x; second = y; third = z }
+abbrev pub codeDigits : ℕ → Code → Three
+codeDigits steps (grouped v) = digitsOf steps v
+codeDigits steps (single x y z) = record { first = x; second = y; third = z }
 
 -- the three samples of a place
-abbrev pub place : ℕ → ℕ → Three → ℕ → List ℤ → List ℤ
-place steps factor d at xs = three at (sampleOf steps (d .first) factor) (sampleOf steps (d .second) factor) (sampleOf steps (d .third) factor) xs
+abbrev pub samplesAt : ℕ → ℕ → Three → ℕ → List ℤ → List ℤ
+samplesAt steps factor d at xs = three at (sampleOf steps (d .first) factor) (sampleOf steps (d .second) factor) (sampleOf steps (d .third) factor) xs
 
 module _ (t : Table) (allocation scalefactor : List ℕ) (bound part : ℕ) where
   -- where something is allocated
   unfoldable pub placed : ℕ → ℕ → Code → List ℤ → List ℤ
   placed sb at c xs =
       let steps = stepsOf t sb (getD allocation at 0) in
-      cond (eqb (getD allocation at 0) 0) xs (place steps (factorOf (getD scalefactor (part * 64 + at) 63)) (digits steps c) at xs)
+      cond (eqb (getD allocation at 0) 0) xs (samplesAt steps (factorOf (getD scalefactor (part * 64 + at) 63)) (codeDigits steps c) at xs)
 
   -- a subband's two channels
   unfoldable pub band : ℕ → Code → Code → List ℤ → List ℤ
@@ -44,5 +44,5 @@ unfoldable pub madeFrom : Table → List ℕ → List ℕ → ℕ → ℕ → Li
 madeFrom t a f bound g [] = []
 madeFrom t a f bound g (cs ∷ more) = made t a f bound (g / 4) cs (sblimit t) ∷ madeFrom t a f bound (suc g) more
 
-unfoldable pub samplesBy01 : Table → ℕ → Fields → List (List ℤ)
+unfoldable pub samplesBy01 : Table → ℕ → AudioFields → List (List ℤ)
 samplesBy01 t bound x = madeFrom t (x .allocation) (x .scalefactor) bound 0 (x .codes)

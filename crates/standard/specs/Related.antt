@@ -20,12 +20,12 @@ Related R (ask m f) (done b) = ⊥
 Related R (ask m f) (ask n g) = (m ≡ n) × ((v : ℕ) → v < 2 ^ m → Related R (f v) (g v))
 
 -- so on any stream, from any place, both end at the same bit
-pub record Alike {A B : Type 0} (R : A → B → Type 0) (m : Reads A) (n : Reads B) (s : List ℕ) (r : Reader) : Type 0 where
+pub record Matching {A B : Type 0} (R : A → B → Type 0) (m : Reads A) (n : Reads B) (s : List ℕ) (r : Reader) : Type 0 where
   pub next : run m s r .next ≡ run n s r .next
   pub value : R (run m s r .value) (run n s r .value)
 
 module _ {A B : Type 0} (R : A → B → Type 0) where
-  pub related-run : (m : Reads A) (n : Reads B) → Related R m n → (s : List ℕ) (r : Reader) → Alike R m n s r
+  pub related-run : (m : Reads A) (n : Reads B) → Related R m n → (s : List ℕ) (r : Reader) → Matching R m n s r
   unfolding Related run
   related-run (done a) (done b) h s r = record { next = refl; value = h }
   related-run (done a) (ask n g) h s r = absurd h
@@ -104,7 +104,8 @@ module _ {A B : Type 0} (a : A) (b : B) where
   twin-replicate R h (suc n) =
       let t = twin-replicate (λ i. R (suc i)) (λ i. h (suc i)) n in record { long = ap suc (t .long); each = at (t .each) }
     where
-      at : ((i : ℕ) → R (suc i) (getD (replicate n a) i a) (getD (replicate n b) i b)) → (i : ℕ) → R i (getD (replicate (suc n) a) i a) (getD (replicate (suc n) b) i b)
+      at : ((i : ℕ) → R (suc i) (getD (replicate n a) i a) (getD (replicate n b) i b))
+          → (i : ℕ) → R i (getD (replicate (suc n) a) i a) (getD (replicate (suc n) b) i b)
       at e zero = h 0
       at e (suc i) = e i
 

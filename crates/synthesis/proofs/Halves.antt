@@ -1,6 +1,6 @@
 -- The memory's halves and the ring's part, lent one after the other: what comes back is a slot, and a turn of a run of slots.
 -- From 01, "From samples to sound". Assumes nothing.
-use mathlib.Core.Path.{_≡_, refl, ap, _∙_}
+use mathlib.Core.Path.{_≡_, refl, ap, ap₂, _∙_}
 use mathlib.Core.List.{List, _++_}
 use Prim.Native.Nat.{ℕ, suc, _+_, _-_, _*_, _≤_, _<_}
 use native.Mathlib.Numerals.{add-one}
@@ -12,9 +12,8 @@ use lib.Ieee.{Float}
 use borrow.Rule.Slice.PartMut.{putMid, midOf}
 use Rattle.transform.specs.Transform.{idct, Small}
 use Rattle.window.specs.Output.{Place, outputOf, stores}
-use Rattle.synthesis.specs.Slots.{back, positionAfter, put, slotRing, ringAfter, outputsAt, leftOf, rightOf, withRings, interleaved, slotMemory, slotOutput, memoryAfter, outputAfter, samplesOf}
-use Rattle.synthesis.specs.Ring.{ring-length}
-use Rattle.synthesis.specs.Memory.{left-of, right-of, with-with, left-length, right-length}
+use Rattle.synthesis.specs.Slots.{memoryLength, placeBefore, positionAfter, put, slotRing, ringAfter, outputsAt, ringOf, withRings, interleaved, slotMemory, slotOutput, memoryAfter, outputAfter, slotSamples}
+use Rattle.synthesis.specs.Memory.{with-alike, memory-ring, memory-with}
 
 -- ---- one channel
 
@@ -45,66 +44,57 @@ module _ (samples : List ℤ) (a e : ℕ) (wide : e ≡ a + 32) where
             rw (getD-take 32 (drop a samples) i (pos 0) b, getD-drop a samples i (pos 0)) (h (a + i) (omega arith)),
       )
 
-  pub part-is : (ch n : ℕ) → a ≡ 64 * n + 32 * ch → take (e - a) (drop a samples) ≡ samplesOf samples ch n
-  unfolding samplesOf
-  part-is ch n from = rw (w, from)
+  pub part-is : (channel n : ℕ) → a ≡ 64 * n + 32 * channel → take (e - a) (drop a samples) ≡ slotSamples samples channel n
+  unfolding slotSamples
+  part-is channel n is = rw (w, is)
 
 -- ---- both channels: the left half of the memory is lent and comes back, then the right one
 
-module _ (memory left : List Float) (ll : length left ≡ 1024) where
+module _ (memory left : List Float) (full : length left ≡ 1024) where
   -- with the left half back, the right one is what it was
-  right-after : midOf 1024 1024 (putMid 0 1024 memory left) ≡ rightOf memory
-  unfolding rightOf
-  right-after = ap (λ (z : List Float). take 1024 z) (drop-at left (drop 1024 memory) 1024 ll)
+  right-after : midOf 1024 1024 (putMid 0 1024 memory left) ≡ ringOf 1 memory
+  unfolding ringOf
+  right-after = ap (λ (z : List Float). take 1024 z) (drop-at left (drop 1024 memory) 1024 full)
 
-  both-after : (right : List Float) → putMid 1024 1024 (putMid 0 1024 memory left) right ≡ withRings memory left right
+  both-after : (ring : ℕ → List Float) → left ≡ ring 0 → putMid 1024 1024 (putMid 0 1024 memory left) (ring 1) ≡ withRings memory ring
   unfolding withRings
-  both-after right =
-      ap (λ (z : List Float). z ++ (right ++ drop 1024 (drop 1024 (left ++ drop 1024 memory)))) (take-at left (drop 1024 memory) 1024 ll)
-      ∙ ap (λ (z : List Float). left ++ (right ++ drop 1024 z)) (drop-at left (drop 1024 memory) 1024 ll)
-      ∙ ap (λ (z : List Float). left ++ (right ++ z)) (drop-drop 1024 1024 memory)
+  both-after ring is =
+      ap (λ (z : List Float). z ++ (ring 1 ++ drop 1024 (drop 1024 (left ++ drop 1024 memory)))) (take-at left (drop 1024 memory) 1024 full)
+      ∙ ap (λ (z : List Float). left ++ (ring 1 ++ drop 1024 z)) (drop-at left (drop 1024 memory) 1024 full)
+      ∙ ap₂ (λ (y z : List Float). y ++ (ring 1 ++ z)) is (drop-drop 1024 1024 memory)
 
 module _ (f : ℕ → ℕ → List ℤ) (memory : List Float) (p n : ℕ) (output : List Float) (at : ℕ) where
   pub both :
       (x y : List ℤ) (left right o₁ o₂ : List Float) → x ≡ f 0 n → y ≡ f 1 n → length left ≡ 1024
-      → (left ≡ slotRing (leftOf memory) p x) × (o₁ ≡ stores output at (outputOf (slotRing (leftOf memory) p x) p) 32)
+      → (left ≡ slotRing (ringOf 0 memory) p x) × (o₁ ≡ stores output at (outputOf (slotRing (ringOf 0 memory) p x) p) 32)
       → (right ≡ slotRing (midOf 1024 1024 (putMid 0 1024 memory left)) p y)
       × (o₂ ≡ stores o₁ (at + 1) (outputOf (slotRing (midOf 1024 1024 (putMid 0 1024 memory left)) p y) p) 32)
       → (putMid 1024 1024 (putMid 0 1024 memory left) right ≡ slotMemory f memory p n) × (o₂ ≡ slotOutput f memory p n output at)
   unfolding slotMemory slotOutput
-  both x y left right o₁ o₂ ex ey ll l r =
-      let r′ = rw (right-after memory left ll) at r in
-      (both-after memory left ll right ∙ rw (l .0, r′ .0, ex, ey), r′ .1 ∙ rw (l .1, ex, ey))
+  both x y left right o₁ o₂ ex ey full l r =
+      let r′ = rw (right-after memory left full) at r in
+      (rw (r′ .0, ey) (both-after memory left full _ (rw ex at (l .0))), r′ .1 ∙ rw (l .1, ex, ey))
 
 -- ---- a turn of a run of slots
 
-module _ (f : ℕ → ℕ → List ℤ) {p : ℕ} (h : Place p) (memory : List Float) (big : 2048 ≤ length memory) (n : ℕ) where
-  abbrev left : List Float
-  left = ringAfter (f 0) p (leftOf memory) n
-
-  abbrev right : List Float
-  right = ringAfter (f 1) p (rightOf memory) n
-
-  ll : length left ≡ 1024
-  ll = ring-length (f 0) h (leftOf memory) (left-length memory big) n
-
-  lr : length right ≡ 1024
-  lr = ring-length (f 1) h (rightOf memory) (right-length memory big) n
-
+module _ (f : ℕ → ℕ → List ℤ) {p : ℕ} (h : Place p) (memory : List Float) (big : memoryLength ≤ length memory) (n : ℕ) where
   memory-suc : slotMemory f (memoryAfter f p memory n) (positionAfter p (suc n)) n ≡ memoryAfter f p memory (suc n)
   unfolding slotMemory memoryAfter ringAfter
-  memory-suc = with-with memory left right ll lr _ _ ∙ rw (left-of memory left right ll lr, right-of memory left right ll lr)
+  memory-suc =
+      memory-with f h memory big n _ ∙ with-alike memory _ _
+      (λ channel two. ap (λ (ring : List Float). slotRing ring (positionAfter p (suc n)) (f channel n)) (memory-ring f h memory big channel two n))
 
   output-suc : (output : List Float) (at : ℕ)
-      → slotOutput f (memoryAfter f p memory n) (positionAfter p (suc n)) n (outputAfter f p memory output at n) (at + 64 * n) ≡ outputAfter f p memory output at (suc n)
-  unfolding slotOutput memoryAfter outputAfter interleaved outputsAt ringAfter
-  output-suc output at = rw (left-of memory left right ll lr, right-of memory left right ll lr)
+      → slotOutput f (memoryAfter f p memory n) (positionAfter p (suc n)) n (outputAfter f p memory output at n) (at + 64 * n)
+      ≡ outputAfter f p memory output at (suc n)
+  unfolding slotOutput outputAfter interleaved outputsAt ringAfter
+  output-suc output at = rw (memory-ring f h memory big 0 (omega arith) n, memory-ring f h memory big 1 (omega arith) n)
 
   pub slot-more :
       (output : List Float) (at q : ℕ) (m₁ m₂ o₁ o₂ : List Float)
       → q ≡ positionAfter p n → m₁ ≡ memoryAfter f p memory n → o₁ ≡ outputAfter f p memory output at n
-      → (m₂ ≡ slotMemory f m₁ (back q) n) × (o₂ ≡ slotOutput f m₁ (back q) n o₁ (at + 64 * n))
-      → (back q ≡ positionAfter p (n + 1)) × (m₂ ≡ memoryAfter f p memory (n + 1)) × (o₂ ≡ outputAfter f p memory output at (n + 1))
+      → (m₂ ≡ slotMemory f m₁ (placeBefore q) n) × (o₂ ≡ slotOutput f m₁ (placeBefore q) n o₁ (at + 64 * n))
+      → (placeBefore q ≡ positionAfter p (n + 1)) × (m₂ ≡ memoryAfter f p memory (n + 1)) × (o₂ ≡ outputAfter f p memory output at (n + 1))
   unfolding positionAfter
   slot-more output at q m₁ m₂ o₁ o₂ eq em eo e =
       rw (add-one, e .0, e .1, em, eo, eq) (refl, memory-suc, output-suc output at)

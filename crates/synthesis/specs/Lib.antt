@@ -4,3 +4,4 @@ pub mod Memory
 pub mod Output
 pub mod Granule
 pub mod Wash
+pub mod Equal

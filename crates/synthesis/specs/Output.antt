@@ -12,9 +12,9 @@ use lib.ListN.{length, getD, set, length-set}
 use lib.Seq.{getD-set-same, getD-set-other}
 use lib.Ieee.{Float, nan}
 use Rattle.window.specs.Output.{Place, stores}
-use Rattle.synthesis.specs.Slots.{positionAfter, outputsAt, leftOf, rightOf, interleaved, memoryAfter, outputAfter}
-use Rattle.synthesis.specs.Ring.{Alike, outputs-alike, outputs-add, from}
-use Rattle.synthesis.specs.Memory.{memory-left, memory-right}
+use Rattle.synthesis.specs.Slots.{memoryLength, positionAfter, outputsAt, ringOf, interleaved, memoryAfter, outputAfter}
+use Rattle.synthesis.specs.Ring.{SameSlots, outputs-alike, outputs-add, slotsFrom}
+use Rattle.synthesis.specs.Memory.{by-channel, memory-ring}
 
 -- ---- stores at every second place
 
@@ -50,26 +50,38 @@ module _ (output : List Float) (at : ℕ) (f : ℕ → Float) where
 
 -- ---- slots of both channels
 
-module _ (left right : ℕ → ℕ → Float) (output : List Float) (at : ℕ) where
+module _ (out : ℕ → ℕ → ℕ → Float) (output : List Float) (at : ℕ) where
   abbrev done : ℕ → List Float
-  done n = interleaved left right output at n
+  done n = interleaved out output at n
 
-  -- the left half of slot n
+  -- with the left channel's outputs of slot n
   abbrev half : ℕ → List Float
-  half n = stores (done n) (at + 64 * n) (left n) 32
+  half n = stores (done n) (at + 64 * n) (out 0 n) 32
 
   pub interleaved-length : (n : ℕ) → length (done n) ≡ length output
   unfolding interleaved
   interleaved-length zero = refl
   interleaved-length (suc n) =
-      stores-length (half n) (at + 64 * n + 1) (right n) 32 ∙ stores-length (done n) (at + 64 * n) (left n) 32 ∙ interleaved-length n
+      stores-length (half n) (at + 64 * n + 1) (out 1 n) 32 ∙ stores-length (done n) (at + 64 * n) (out 0 n) 32 ∙ interleaved-length n
 
   -- slot n stores to its own 64 places
   slot-other : (n i : ℕ) → ((j : ℕ) → j < 64 → i ≡ at + 64 * n + j → ⊥) → getD (done (suc n)) i nan ≡ getD (done n) i nan
   unfolding interleaved
   slot-other n i h =
-      stores-other (half n) (at + 64 * n + 1) (right n) 32 i (λ j k e. h (1 + 2 * j) (omega arith) (omega arith))
-      ∙ stores-other (done n) (at + 64 * n) (left n) 32 i (λ j k e. h (2 * j) (omega arith) (omega arith))
+      stores-other (half n) (at + 64 * n + 1) (out 1 n) 32 i (λ j k e. h (1 + 2 * j) (omega arith) (omega arith))
+      ∙ stores-other (done n) (at + 64 * n) (out 0 n) 32 i (λ j k e. h (2 * j) (omega arith) (omega arith))
+
+  -- there the value 2 j + channel is the channel's output j
+  slot-at : (n : ℕ) → at + 64 * suc n ≤ length output → (j : ℕ) → j < 32 → (channel : ℕ) → channel < 2
+      → getD (done (suc n)) (at + 64 * n + channel + 2 * j) nan ≡ out channel n j
+  unfolding interleaved
+  slot-at n room j hj =
+      let first : at + 64 * n + 0 + 2 * j ≡ at + 64 * n + 2 * j = omega arith in
+      by-channel (λ channel. getD (done (suc n)) (at + 64 * n + channel + 2 * j) nan ≡ out channel n j)
+      (ap (λ (z : ℕ). getD (done (suc n)) z nan) first
+      ∙ stores-other (half n) (at + 64 * n + 1) (out 1 n) 32 (at + 64 * n + 2 * j) (λ i l e. omega arith)
+      ∙ stores-at (done n) (at + 64 * n) (out 0 n) 32 (omega (arith, interleaved-length n)) j hj)
+      (stores-at (half n) (at + 64 * n + 1) (out 1 n) 32 (omega (arith, interleaved-length n, stores-length (done n) (at + 64 * n) (out 0 n) 32)) j hj)
 
   -- outside the n slots' places the output is as it was
   pub interleaved-other : (n i : ℕ) → (i < at) ⊎ (at + 64 * n ≤ i) → getD (done n) i nan ≡ getD output i nan
@@ -84,28 +96,20 @@ module _ (left right : ℕ → ℕ → Float) (output : List Float) (at : ℕ) w
   interleaved-kept n (suc k) i h =
       ap (λ (z : ℕ). getD (done z) i nan) (add-suc n k) ∙ slot-other (n + k) i (λ j l e. omega arith) ∙ interleaved-kept n k i h
 
-  module _ (n : ℕ) (room : at + 64 * n ≤ length output) (k j : ℕ) (hk : k < n) (hj : j < 32) where
-    up : suc k + (n - suc k) ≡ n
-    up = omega arith
-
-    pub interleaved-left : getD (done n) (at + 64 * k + 2 * j) nan ≡ left k j
-    unfolding interleaved
-    interleaved-left =
-        ap (λ (z : ℕ). getD (done z) (at + 64 * k + 2 * j) nan) (sym up)
-        ∙ interleaved-kept (suc k) (n - suc k) (at + 64 * k + 2 * j) (omega arith)
-        ∙ stores-other (half k) (at + 64 * k + 1) (right k) 32 (at + 64 * k + 2 * j) (λ i l e. omega arith)
-        ∙ stores-at (done k) (at + 64 * k) (left k) 32 (omega (arith, interleaved-length k)) j hj
-
-    pub interleaved-right : getD (done n) (at + 64 * k + 1 + 2 * j) nan ≡ right k j
-    unfolding interleaved
-    interleaved-right =
-        ap (λ (z : ℕ). getD (done z) (at + 64 * k + 1 + 2 * j) nan) (sym up)
-        ∙ interleaved-kept (suc k) (n - suc k) (at + 64 * k + 1 + 2 * j) (omega arith)
-        ∙ stores-at (half k) (at + 64 * k + 1) (right k) 32
-        (omega (arith, interleaved-length k, stores-length (done k) (at + 64 * k) (left k) 32)) j hj
+  -- the place i behind `at` is of channel i mod 2, slot i / 64, output (i mod 64) / 2
+  pub interleaved-at : (n : ℕ) → at + 64 * n ≤ length output → (i : ℕ) → i < 64 * n
+      → getD (done n) (at + i) nan ≡ out (i % 2) (i / 64) (i % 64 / 2)
+  interleaved-at n room i hi =
+      let k = i / 64 in
+      let up : n ≡ suc k + (n - suc k) = omega arith in
+      let place : at + i ≡ at + 64 * k + i % 2 + 2 * (i % 64 / 2) = omega arith in
+      ap (λ (z : ℕ). getD (done z) (at + i) nan) up
+      ∙ interleaved-kept (suc k) (n - suc k) (at + i) (omega arith)
+      ∙ ap (λ (z : ℕ). getD (done (suc k)) z nan) place
+      ∙ slot-at k (omega arith) (i % 64 / 2) (omega arith) (i % 2) (omega arith)
 
   -- n + k slots are n slots and k more
-  pub interleaved-add : (n k : ℕ) → done (n + k) ≡ interleaved (λ i. left (n + i)) (λ i. right (n + i)) (done n) (at + 64 * n) k
+  pub interleaved-add : (n k : ℕ) → done (n + k) ≡ interleaved (λ channel i. out channel (n + i)) (done n) (at + 64 * n) k
   unfolding interleaved
   interleaved-add n zero = ap done (add-zero n)
   interleaved-add n (suc k) =
@@ -113,69 +117,48 @@ module _ (left right : ℕ → ℕ → Float) (output : List Float) (at : ℕ) w
       ap done (add-suc n k) ∙ rw (e, ← interleaved-add n k)
 
 -- only the first n slots' outputs matter
-pub interleaved-alike : (left right left′ right′ : ℕ → ℕ → Float) (output : List Float) (at n : ℕ)
-    → ((k : ℕ) → k < n → left k ≡ left′ k) → ((k : ℕ) → k < n → right k ≡ right′ k)
-    → interleaved left right output at n ≡ interleaved left′ right′ output at n
+pub interleaved-alike : (a b : ℕ → ℕ → ℕ → Float) (output : List Float) (at n : ℕ)
+    → ((channel : ℕ) → channel < 2 → (k : ℕ) → k < n → a channel k ≡ b channel k) → interleaved a output at n ≡ interleaved b output at n
 unfolding interleaved
-interleaved-alike left right left′ right′ output at zero l r = refl
-interleaved-alike left right left′ right′ output at (suc n) l r =
-    rw (l n (omega arith), r n (omega arith), interleaved-alike left right left′ right′ output at n (λ k h. l k (omega arith)) (λ k h. r k (omega arith)))
+interleaved-alike a b output at zero e = refl
+interleaved-alike a b output at (suc n) e =
+    let before = interleaved-alike a b output at n (λ channel two k l. e channel two k (omega arith)) in
+    rw (e 0 (omega arith) n (omega arith), e 1 (omega arith) n (omega arith), before)
 
 -- ---- runs of slots
 
 module _ (f : ℕ → ℕ → List ℤ) (p : ℕ) (memory output : List Float) (at : ℕ) where
-  abbrev left : ℕ → ℕ → Float
-  left = outputsAt (f 0) p (leftOf memory)
-
-  abbrev right : ℕ → ℕ → Float
-  right = outputsAt (f 1) p (rightOf memory)
+  abbrev outputs : ℕ → ℕ → ℕ → Float
+  outputs channel = outputsAt (f channel) p (ringOf channel memory)
 
   pub output-length : (n : ℕ) → length (outputAfter f p memory output at n) ≡ length output
   unfolding outputAfter
-  output-length n = interleaved-length left right output at n
+  output-length n = interleaved-length outputs output at n
 
   pub output-other : (n i : ℕ) → (i < at) ⊎ (at + 64 * n ≤ i) → getD (outputAfter f p memory output at n) i nan ≡ getD output i nan
   unfolding outputAfter
-  output-other n i h = interleaved-other left right output at n i h
+  output-other n i h = interleaved-other outputs output at n i h
 
-  pub output-left : (n : ℕ) → at + 64 * n ≤ length output → (k j : ℕ) → k < n → j < 32
-      → getD (outputAfter f p memory output at n) (at + 64 * k + 2 * j) nan ≡ outputsAt (f 0) p (leftOf memory) k j
+  -- the place i behind `at` is of channel i mod 2, slot i / 64, output (i mod 64) / 2
+  pub output-at : (n : ℕ) → at + 64 * n ≤ length output → (i : ℕ) → i < 64 * n
+      → getD (outputAfter f p memory output at n) (at + i) nan ≡ outputsAt (f (i % 2)) p (ringOf (i % 2) memory) (i / 64) (i % 64 / 2)
   unfolding outputAfter
-  output-left n room k j hk hj = interleaved-left left right output at n room k j hk hj
+  output-at n room i hi = interleaved-at outputs output at n room i hi
 
-  pub output-right : (n : ℕ) → at + 64 * n ≤ length output → (k j : ℕ) → k < n → j < 32
-      → getD (outputAfter f p memory output at n) (at + 64 * k + 1 + 2 * j) nan ≡ outputsAt (f 1) p (rightOf memory) k j
-  unfolding outputAfter
-  output-right n room k j hk hj = interleaved-right left right output at n room k j hk hj
-
-  -- the same by the place i behind `at`: channel i mod 2, slot i / 64, output (i mod 64) / 2
-  pub output-even : (n : ℕ) → at + 64 * n ≤ length output → (i : ℕ) → i < 64 * n → i % 2 ≡ 0
-      → getD (outputAfter f p memory output at n) (at + i) nan ≡ outputsAt (f 0) p (leftOf memory) (i / 64) (i % 64 / 2)
-  output-even n room i hi even =
-      let e : at + i ≡ at + 64 * (i / 64) + 2 * (i % 64 / 2) = omega arith in
-      rw e (output-left n room (i / 64) (i % 64 / 2) (omega arith) (omega arith))
-
-  pub output-odd : (n : ℕ) → at + 64 * n ≤ length output → (i : ℕ) → i < 64 * n → i % 2 ≡ 1
-      → getD (outputAfter f p memory output at n) (at + i) nan ≡ outputsAt (f 1) p (rightOf memory) (i / 64) (i % 64 / 2)
-  output-odd n room i hi odd =
-      let e : at + i ≡ at + 64 * (i / 64) + 1 + 2 * (i % 64 / 2) = omega arith in
-      rw e (output-right n room (i / 64) (i % 64 / 2) (omega arith) (omega arith))
-
-  pub output-alike : (g : ℕ → ℕ → List ℤ) (n : ℕ) → ((ch : ℕ) → ch < 2 → Alike n (f ch) (g ch))
+  pub output-alike : (g : ℕ → ℕ → List ℤ) (n : ℕ) → ((channel : ℕ) → channel < 2 → SameSlots n (f channel) (g channel))
       → outputAfter f p memory output at n ≡ outputAfter g p memory output at n
   unfolding outputAfter
   output-alike g n e =
-      interleaved-alike _ _ _ _ output at n
-      (λ k h. outputs-alike (f 0) (g 0) p (leftOf memory) k (λ i l. e 0 (omega arith) i (omega arith)))
-      (λ k h. outputs-alike (f 1) (g 1) p (rightOf memory) k (λ i l. e 1 (omega arith) i (omega arith)))
+      interleaved-alike _ _ output at n
+      (λ channel two k h. outputs-alike (f channel) (g channel) p (ringOf channel memory) k (λ i l. e channel two i (omega arith)))
 
   -- n + k slots are n slots and k more
-  pub output-add : Place p → 2048 ≤ length memory → (n k : ℕ)
+  pub output-add : Place p → memoryLength ≤ length memory → (n k : ℕ)
       → outputAfter f p memory output at (n + k)
-      ≡ outputAfter (λ ch. from n (f ch)) (positionAfter p n) (memoryAfter f p memory n) (outputAfter f p memory output at n) (at + 64 * n) k
+      ≡ outputAfter (λ channel. slotsFrom n (f channel)) (positionAfter p n) (memoryAfter f p memory n) (outputAfter f p memory output at n) (at + 64 * n) k
   unfolding outputAfter
   output-add h big n k =
-      interleaved-add left right output at n k
-      ∙ rw (memory-left f h memory big n, memory-right f h memory big n)
-      (interleaved-alike _ _ _ _ (interleaved left right output at n) (at + 64 * n) k
-      (λ i l. outputs-add (f 0) p (leftOf memory) n i) (λ i l. outputs-add (f 1) p (rightOf memory) n i))
+      interleaved-add outputs output at n k
+      ∙ interleaved-alike _ _ (interleaved outputs output at n) (at + 64 * n) k
+      (λ channel two i l. outputs-add (f channel) p (ringOf channel memory) n i
+      ∙ ap (λ (ring : List Float). outputsAt (slotsFrom n (f channel)) (positionAfter p n) ring i) (sym (memory-ring f h memory big channel two n)))

@@ -10,23 +10,23 @@ use lib.Seq.{length-take-le, getD-take, getD-drop, getD-append-add}
 use lib.Ieee.{Float, nan}
 use Rattle.transform.specs.Transform.{idct, idct-length}
 use Rattle.window.specs.Output.{Place, outputOf}
-use Rattle.synthesis.specs.Slots.{back, positionAfter, put, slotRing, ringAfter, outputsAt}
+use Rattle.synthesis.specs.Slots.{placeBefore, positionAfter, put, slotRing, ringAfter, outputsAt}
 
 -- ---- the position
 
-pub place-back : {p : ℕ} → Place p → Place (back p)
-place-back h = omega arith
+pub place-before : {p : ℕ} → Place p → Place (placeBefore p)
+place-before h = omega arith
 
 pub place-after : {p : ℕ} → Place p → (n : ℕ) → Place (positionAfter p n)
 unfolding positionAfter
 place-after h zero = h
-place-after h (suc n) = place-back (place-after h n)
+place-after h (suc n) = place-before (place-after h n)
 
 -- n + k slots are n slots and k more
 pub position-add : (p n k : ℕ) → positionAfter p (n + k) ≡ positionAfter (positionAfter p n) k
 unfolding positionAfter
 position-add p n zero = ap (positionAfter p) (add-zero n)
-position-add p n (suc k) = ap (positionAfter p) (add-suc n k) ∙ ap back (position-add p n k)
+position-add p n (suc k) = ap (positionAfter p) (add-suc n k) ∙ ap placeBefore (position-add p n k)
 
 -- n slots of a frame take the position back by 64 n
 back-by : {p : ℕ} → Place p → (n : ℕ) → n ≤ 36 → positionAfter p n ≡ (p + 4096 - 64 * n) % 1024
@@ -93,32 +93,32 @@ ring-length f {p} h ring l (suc n) =
     put-length (ringAfter f p ring n) (positionAfter p (suc n)) (idct (f n)) (omega arith) (idct-length (f n)) ∙ e
 
 -- two runs have the same samples in their first n slots
-abbrev pub Alike : ℕ → (ℕ → List ℤ) → (ℕ → List ℤ) → Type 0
-Alike n f g = (k : ℕ) → k < n → f k ≡ g k
+abbrev pub SameSlots : ℕ → (ℕ → List ℤ) → (ℕ → List ℤ) → Type 0
+SameSlots n f g = (k : ℕ) → k < n → f k ≡ g k
 
 module _ (f g : ℕ → List ℤ) (p : ℕ) (ring : List Float) where
-  pub ring-alike : (n : ℕ) → Alike n f g → ringAfter f p ring n ≡ ringAfter g p ring n
+  pub ring-alike : (n : ℕ) → SameSlots n f g → ringAfter f p ring n ≡ ringAfter g p ring n
   unfolding ringAfter
   ring-alike zero e = refl
   ring-alike (suc n) e = rw (e n (omega arith), ring-alike n (λ k l. e k (omega arith)))
 
-  pub outputs-alike : (n : ℕ) → Alike (suc n) f g → outputsAt f p ring n ≡ outputsAt g p ring n
+  pub outputs-alike : (n : ℕ) → SameSlots (suc n) f g → outputsAt f p ring n ≡ outputsAt g p ring n
   unfolding outputsAt
   outputs-alike n e = ap (λ (m : List Float). outputOf m (positionAfter p (suc n))) (ring-alike (suc n) e)
 
 -- the samples from slot n on
-abbrev pub from : ℕ → (ℕ → List ℤ) → ℕ → List ℤ
-from n f i = f (n + i)
+abbrev pub slotsFrom : ℕ → (ℕ → List ℤ) → ℕ → List ℤ
+slotsFrom n f i = f (n + i)
 
 module _ (f : ℕ → List ℤ) (p : ℕ) (ring : List Float) (n : ℕ) where
-  pub ring-add : (k : ℕ) → ringAfter f p ring (n + k) ≡ ringAfter (from n f) (positionAfter p n) (ringAfter f p ring n) k
+  pub ring-add : (k : ℕ) → ringAfter f p ring (n + k) ≡ ringAfter (slotsFrom n f) (positionAfter p n) (ringAfter f p ring n) k
   unfolding ringAfter positionAfter
   ring-add zero = ap (ringAfter f p ring) (add-zero n)
   ring-add (suc k) =
       ap (ringAfter f p ring) (add-suc n k)
-      ∙ ap₂ (λ (m : List Float) (q : ℕ). slotRing m (back q) (f (n + k))) (ring-add k) (position-add p n k)
+      ∙ ap₂ (λ (m : List Float) (q : ℕ). slotRing m (placeBefore q) (f (n + k))) (ring-add k) (position-add p n k)
 
-  pub outputs-add : (k : ℕ) → outputsAt f p ring (n + k) ≡ outputsAt (from n f) (positionAfter p n) (ringAfter f p ring n) k
+  pub outputs-add : (k : ℕ) → outputsAt f p ring (n + k) ≡ outputsAt (slotsFrom n f) (positionAfter p n) (ringAfter f p ring n) k
   unfolding outputsAt
   outputs-add k =
       ap₂ outputOf (ap (ringAfter f p ring) (sym (add-suc n k)) ∙ ring-add (suc k))

@@ -11,13 +11,14 @@ use Rattle.window.specs.Output.{outputOf, stores}
 
 -- ---- the ring position
 
-abbrev pub back : ℕ → ℕ
-back p = (p + 960) % 1024
+-- 64 places before p on the ring: where the next slot is written
+abbrev pub placeBefore : ℕ → ℕ
+placeBefore p = (p + 960) % 1024
 
 -- the position after n slots
 unfoldable pub positionAfter : ℕ → ℕ → ℕ
 positionAfter p zero = p
-positionAfter p (suc n) = back (positionAfter p n)
+positionAfter p (suc n) = placeBefore (positionAfter p n)
 
 -- ---- one channel: a ring of 1,024 values
 
@@ -25,6 +26,7 @@ positionAfter p (suc n) = back (positionAfter p n)
 unfoldable pub put : List Float → ℕ → List Float → List Float
 put ring p values = take p ring ++ (values ++ drop 64 (drop p ring))
 
+-- with a slot's 64 values
 unfoldable pub slotRing : List Float → ℕ → List ℤ → List Float
 slotRing ring p samples = put ring p (idct samples)
 
@@ -41,39 +43,46 @@ module _ (f : ℕ → List ℤ) (p : ℕ) (ring : List Float) where
 
 -- ---- both channels
 
--- the memory: the left ring, the right ring, the rest
-unfoldable pub leftOf : List Float → List Float
-leftOf memory = take 1024 memory
+-- the values of the synthesis memory, two rings, and of a frame's output, 36 slots of 64: 01, "The tag's share of the code"
+abbrev pub memoryLength : ℕ
+memoryLength = 2048
 
-unfoldable pub rightOf : List Float → List Float
-rightOf memory = take 1024 (drop 1024 memory)
+abbrev pub outputLength : ℕ
+outputLength = 2304
 
-unfoldable pub withRings : List Float → List Float → List Float → List Float
-withRings memory left right = left ++ (right ++ drop 2048 memory)
+-- a channel's ring, 0 being left and 1 right: the memory is the left ring, the right ring, the rest
+unfoldable pub ringOf : ℕ → List Float → List Float
+ringOf channel memory = take 1024 (drop (1024 * channel) memory)
 
--- the outputs of n slots, left and right in turn, from `at` on
-unfoldable pub interleaved : (ℕ → ℕ → Float) → (ℕ → ℕ → Float) → List Float → ℕ → ℕ → List Float
-interleaved left right output at zero = output
-interleaved left right output at (suc n) =
-    stores (stores (interleaved left right output at n) (at + 64 * n) (left n) 32) (at + 64 * n + 1) (right n) 32
+-- the memory with other rings, the rest as it was
+unfoldable pub withRings : List Float → (ℕ → List Float) → List Float
+withRings memory ring = ring 0 ++ (ring 1 ++ drop memoryLength memory)
 
--- f ch n being the samples of channel ch in slot n: what slot n makes of the memory and the output, at position p
+-- the outputs of n slots, left and right in turn, from `at` on; out channel n being those of slot n
+unfoldable pub interleaved : (ℕ → ℕ → ℕ → Float) → List Float → ℕ → ℕ → List Float
+interleaved out output at zero = output
+interleaved out output at (suc n) =
+    stores (stores (interleaved out output at n) (at + 64 * n) (out 0 n) 32) (at + 64 * n + 1) (out 1 n) 32
+
+-- f channel n being the samples of the channel in slot n: what slot n makes of the memory and the output, at position p
 module _ (f : ℕ → ℕ → List ℤ) (memory : List Float) (p n : ℕ) where
+  abbrev written : ℕ → List Float
+  written channel = slotRing (ringOf channel memory) p (f channel n)
+
   unfoldable pub slotMemory : List Float
-  slotMemory = withRings memory (slotRing (leftOf memory) p (f 0 n)) (slotRing (rightOf memory) p (f 1 n))
+  slotMemory = withRings memory written
 
   unfoldable pub slotOutput : List Float → ℕ → List Float
-  slotOutput output at =
-      stores (stores output at (outputOf (slotRing (leftOf memory) p (f 0 n)) p) 32) (at + 1) (outputOf (slotRing (rightOf memory) p (f 1 n)) p) 32
+  slotOutput output at = stores (stores output at (outputOf (written 0) p) 32) (at + 1) (outputOf (written 1) p) 32
 
 -- and what n slots make of them, from position p
 module _ (f : ℕ → ℕ → List ℤ) (p : ℕ) (memory : List Float) where
   unfoldable pub memoryAfter : ℕ → List Float
-  memoryAfter n = withRings memory (ringAfter (f 0) p (leftOf memory) n) (ringAfter (f 1) p (rightOf memory) n)
+  memoryAfter n = withRings memory (λ channel. ringAfter (f channel) p (ringOf channel memory) n)
 
   unfoldable pub outputAfter : List Float → ℕ → ℕ → List Float
-  outputAfter output at n = interleaved (outputsAt (f 0) p (leftOf memory)) (outputsAt (f 1) p (rightOf memory)) output at n
+  outputAfter output at n = interleaved (λ channel. outputsAt (f channel) p (ringOf channel memory)) output at n
 
--- the samples of channel ch in slot n, in a granule's (or a frame's) list: slot by slot, in each the left channel first
-unfoldable pub samplesOf : List ℤ → ℕ → ℕ → List ℤ
-samplesOf samples ch n = take 32 (drop (64 * n + 32 * ch) samples)
+-- the samples of a channel in slot n, in a granule's (or a frame's) list: slot by slot, in each the left channel first
+unfoldable pub slotSamples : List ℤ → ℕ → ℕ → List ℤ
+slotSamples samples channel n = take 32 (drop (64 * n + 32 * channel) samples)

@@ -5,7 +5,12 @@ ghost use lib.ListN.{length};
 ghost use Rattle.transform.specs.Transform.{Small};
 ghost use Rattle.window.specs.Window.{windowList};
 ghost use Rattle.window.specs.Output.{Place, outputOf, stores};
-ghost use Rattle.synthesis.specs.Slots.{slotRing, slotMemory, slotOutput, samplesOf, positionAfter, memoryAfter, outputAfter};
+ghost use Rattle.synthesis.specs.Slots.{memoryLength, slotRing, slotMemory, slotOutput, slotSamples, positionAfter, memoryAfter, outputAfter};
+
+// The values of synthesis memory, both channels' rings, and of a frame's output, both channels' samples.
+pub const MEMORY: usize = 2048;
+
+pub const OUTPUT: usize = 2304;
 
 // A slot of one channel: the transform writes its 64 values at p in the ring, then the 32 outputs follow from the ring.
 fn channel_slot(
@@ -16,7 +21,8 @@ fn channel_slot(
     output: &mut [f32],
     at: usize,
 )
-    requires { ⌜ Place p × (length (now ring) ≡ 1024) × (length (now samples) ≡ 32) × Small (now samples) × (now window ≡ windowList) × (at + 63 ≤ length (now output)) ⌝ }
+    requires { ⌜ Place p × (length (now ring) ≡ 1024) × (length (now samples) ≡ 32) × Small (now samples) × (now window ≡ windowList)
+        × (at + 63 ≤ length (now output)) ⌝ }
     ensures { λ _. ⌜ now (ring .exit) ≡ slotRing (now (ring .entry)) p (now (samples .entry)) ⌝ }
     ensures { λ _. ⌜ now (output .exit) ≡ stores (now (output .entry)) at (outputOf (slotRing (now (ring .entry)) p (now (samples .entry))) p) 32 ⌝ }
 {
@@ -35,9 +41,10 @@ fn slot(
     output: &mut [f32],
     at: usize,
 )
-    requires { ⌜ Place p × (2048 ≤ length (now memory)) × (length (now sample) ≡ 192) × Small (now sample) × (n < 3) × (now window ≡ windowList) × (at + 64 ≤ length (now output)) ⌝ }
-    ensures { λ _. ⌜ now (memory .exit) ≡ slotMemory (samplesOf (now (sample .entry))) (now (memory .entry)) p n ⌝ }
-    ensures { λ _. ⌜ now (output .exit) ≡ slotOutput (samplesOf (now (sample .entry))) (now (memory .entry)) p n (now (output .entry)) at ⌝ }
+    requires { ⌜ Place p × (memoryLength ≤ length (now memory)) × (length (now sample) ≡ 192) × Small (now sample) × (n < 3)
+        × (now window ≡ windowList) × (at + 64 ≤ length (now output)) ⌝ }
+    ensures { λ _. ⌜ now (memory .exit) ≡ slotMemory (slotSamples (now (sample .entry))) (now (memory .entry)) p n ⌝ }
+    ensures { λ _. ⌜ now (output .exit) ≡ slotOutput (slotSamples (now (sample .entry))) (now (memory .entry)) p n (now (output .entry)) at ⌝ }
 {
     let left = 64 * n;
     let right = left + 32;
@@ -51,7 +58,7 @@ fn slot(
         at,
     );
     channel_slot(
-        &mut memory[1024..2048],
+        &mut memory[1024..MEMORY],
         p,
         &sample[right..end],
         window,
@@ -69,10 +76,10 @@ pub fn synthesize(
     output: &mut [f32],
     at: usize,
 ) -> usize
-    requires { ⌜ Place p × (2048 ≤ length (now memory)) × Small (now sample) × (now window ≡ windowList) × (at + 192 ≤ length (now output)) ⌝ }
+    requires { ⌜ Place p × (memoryLength ≤ length (now memory)) × Small (now sample) × (now window ≡ windowList) × (at + 192 ≤ length (now output)) ⌝ }
     ensures { λ r. ⌜ r ≡ positionAfter p 3 ⌝ }
-    ensures { λ _. ⌜ now (memory .exit) ≡ memoryAfter (samplesOf (now (sample .entry))) p (now (memory .entry)) 3 ⌝ }
-    ensures { λ _. ⌜ now (output .exit) ≡ outputAfter (samplesOf (now (sample .entry))) p (now (memory .entry)) (now (output .entry)) at 3 ⌝ }
+    ensures { λ _. ⌜ now (memory .exit) ≡ memoryAfter (slotSamples (now (sample .entry))) p (now (memory .entry)) 3 ⌝ }
+    ensures { λ _. ⌜ now (output .exit) ≡ outputAfter (slotSamples (now (sample .entry))) p (now (memory .entry)) (now (output .entry)) at 3 ⌝ }
 {
     let mut position = p;
     let mut n = 0;

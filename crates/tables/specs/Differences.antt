@@ -11,7 +11,7 @@ use lib.ListN.{drop}
 use lib.Pow.{pow-mono}
 use Rattle.ground.specs.Upto.{upto, below, below2, and-left, and-right, or-left}
 use Rattle.tables.specs.Standard.{Table, B2a, B2b, B2c, B2d, rowsOf, sblimit, rowOf, stepsOf, chosen, Class, classes, quantisationOf, levelsOf}
-use Rattle.tables.specs.Source.{quantTab, entryOf, rowOf as sourceRow, widthOf, quantiserOf}
+use Rattle.tables.specs.Source.{quantTab, entryOf, sourceRowOf, widthOf, quantiserOf}
 use Rattle.tables.specs.Laws.{width≤4}
 
 -- the source's table for each of the standard's: 0 that of the low rates, 1 that of the high
@@ -25,12 +25,12 @@ numberOf B2d = 0
 unfoldable pub tableOf : ℕ → ℕ → ℕ → ℕ
 tableOf mode bitrate samplerate = numberOf (chosen (eqb mode 3) bitrate samplerate)
 
--- THE LIST: Tables B.2c and B.2d, subbands 0 and 1, allocation 15
-abbrev pub listed : Table → ℕ → ℕ → Bool
-listed B2a sb allocation = false
-listed B2b sb allocation = false
-listed B2c sb allocation = ltb sb 2 && eqb allocation 15
-listed B2d sb allocation = ltb sb 2 && eqb allocation 15
+-- THE LIST of what differs: Tables B.2c and B.2d, subbands 0 and 1, allocation 15
+abbrev pub differsAt : Table → ℕ → ℕ → Bool
+differsAt B2a sb allocation = false
+differsAt B2b sb allocation = false
+differsAt B2c sb allocation = ltb sb 2 && eqb allocation 15
+differsAt B2d sb allocation = ltb sb 2 && eqb allocation 15
 
 -- the steps that the source takes for an allocation
 abbrev pub taken : Table → ℕ → ℕ → ℕ
@@ -38,15 +38,15 @@ taken t sb allocation = levelsOf (quantiserOf (numberOf t) sb allocation)
 
 -- what is said of an allocation: the steps are the standard's, but where it is listed, 65535 for 32767
 pub record Compared (t : Table) (sb allocation : ℕ) : Type 0 where
-  pub same : listed t sb allocation ≡ false → taken t sb allocation ≡ stepsOf t sb allocation
-  pub other : listed t sb allocation ≡ true → (taken t sb allocation ≡ 65535) × (stepsOf t sb allocation ≡ 32767)
+  pub same : differsAt t sb allocation ≡ false → taken t sb allocation ≡ stepsOf t sb allocation
+  pub other : differsAt t sb allocation ≡ true → (taken t sb allocation ≡ 65535) × (stepsOf t sb allocation ≡ 32767)
 
 -- the widths of the allocation fields
 widthTest : Table → ℕ → Bool
 widthTest t sb = eqb (widthOf (numberOf t) sb) (rowOf t sb .nbal)
 
 widths-hold : (t : Table) → T (upto (widthTest t) (sblimit t))
-unfolding widthTest widthOf sourceRow rowOf rowsOf sblimit
+unfolding widthTest widthOf sourceRowOf rowOf rowsOf sblimit
 widths-hold B2a = tt
 widths-hold B2b = tt
 widths-hold B2c = tt
@@ -59,13 +59,13 @@ same-width t sb h = eqb→eq _ _ (below (widthTest t) (sblimit t) (widths-hold t
 -- the steps, wherever a field of that width can lead
 abbrev agrees : Table → ℕ → ℕ → Bool
 agrees t sb a =
-    cond (listed t sb a) (eqb (taken t sb a) 65535 && eqb (stepsOf t sb a) 32767) (eqb (taken t sb a) (stepsOf t sb a))
+    cond (differsAt t sb a) (eqb (taken t sb a) 65535 && eqb (stepsOf t sb a) 32767) (eqb (taken t sb a) (stepsOf t sb a))
 
 stepTest : Table → ℕ → ℕ → Bool
 stepTest t sb a = agrees t sb a || leb (2 ^ rowOf t sb .nbal) a
 
 steps-hold : (t : Table) → T (upto (λ (sb : ℕ). upto (stepTest t sb) 16) (sblimit t))
-unfolding stepTest quantiserOf sourceRow levelsOf quantisationOf classes stepsOf rowOf rowsOf sblimit
+unfolding stepTest quantiserOf sourceRowOf levelsOf quantisationOf classes stepsOf rowOf rowsOf sblimit
 steps-hold B2a = tt
 steps-hold B2b = tt
 steps-hold B2c = tt

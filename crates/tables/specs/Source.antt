@@ -70,14 +70,14 @@ unfolding classOf
 entryOf mono bitrate samplerate = at step2 (classOf mono bitrate) samplerate
 
 -- step 3: the width of a subband's allocation field is its upper half
-unfoldable pub rowOf : ℕ → ℕ → ℕ
-rowOf table sb = at step3 table sb
+unfoldable pub sourceRowOf : ℕ → ℕ → ℕ
+sourceRowOf table sb = at step3 table sb
 
 unfoldable pub widthOf : ℕ → ℕ → ℕ
-unfolding rowOf
-widthOf table sb = rowOf table sb / 16
+unfolding sourceRowOf
+widthOf table sb = sourceRowOf table sb / 16
 
 -- step 4, in the row that the lower half says: the quantiser that an allocation stands for
 unfoldable pub quantiserOf : ℕ → ℕ → ℕ → ℕ
-unfolding rowOf
-quantiserOf table sb allocation = at step4 (rowOf table sb % 16) allocation
+unfolding sourceRowOf
+quantiserOf table sb allocation = at step4 (sourceRowOf table sb % 16) allocation

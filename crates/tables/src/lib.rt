@@ -1,7 +1,7 @@
 // The tables of the source, and what is looked up in them.
 ghost use mathlib.Core.Path.{_≡_};
 ghost use Prim.Native.Nat.{_^_, _<_};
-ghost use Rattle.tables.specs.Source.{step4, classOf, entryOf, rowOf, widthOf, quantiserOf};
+ghost use Rattle.tables.specs.Source.{step4, classOf, entryOf, sourceRowOf, widthOf, quantiserOf};
 ghost use Rattle.tables.specs.Standard.{kbpsOf, rateOf, limitOf, levelsOf, codeBitsOf, groupedOf};
 ghost use Rattle.tables.specs.Differences.{tableOf};
 
@@ -102,7 +102,7 @@ pub fn allocation_quantisers() -> [[u8; 16]; 5]
 // QUANT_LUT_STEP_3 by ranges of subbands: 16 times the allocation's width, and a row of step 4.
 fn low_row(sb: usize) -> usize
     requires { ⌜ sb < 32 ⌝ }
-    ensures { λ r. ⌜ r ≡ rowOf 0 sb ⌝ }
+    ensures { λ r. ⌜ r ≡ sourceRowOf 0 sb ⌝ }
 {
     match sb {
         0..=1 => 0x44,
@@ -113,7 +113,7 @@ fn low_row(sb: usize) -> usize
 
 fn high_row(sb: usize) -> usize
     requires { ⌜ sb < 32 ⌝ }
-    ensures { λ r. ⌜ r ≡ rowOf 1 sb ⌝ }
+    ensures { λ r. ⌜ r ≡ sourceRowOf 1 sb ⌝ }
 {
     match sb {
         0..=2 => 0x43,
@@ -126,7 +126,7 @@ fn high_row(sb: usize) -> usize
 
 fn row(table: usize, sb: usize) -> usize
     requires { ⌜ (table < 2) × (sb < 32) ⌝ }
-    ensures { λ r. ⌜ r ≡ rowOf table sb ⌝ }
+    ensures { λ r. ⌜ r ≡ sourceRowOf table sb ⌝ }
 {
     if table == 0 {
         return low_row(sb);

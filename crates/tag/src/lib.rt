@@ -1,28 +1,31 @@
-// The boundary that firmware links: the decoder's four calls, numbers and slices and nothing else. `places`: bit position, sample-rate code,
-// bit-rate index, bound, pending data size, ring position; `counts`: mode, frames; `time`: the next start in seconds.
+// The boundary that firmware links: the decoder's four calls, numbers and slices and nothing else. specs/Boundary says what stands
+// where in `places`, `counts` and `time`.
 use audio::Answer;
-use audio::Audio;
-use audio::Heading;
 use audio::Rate;
 use buffer::BitIndex;
 use buffer::Reader;
 use header::Format;
+use header::Reading;
+use state::Audio;
+use verdict::Heading;
 ghost use mathlib.Core.Path.{_≡_};
-ghost use lib.ListN.{set};
-ghost use Rattle.audio.specs.Calls.{openOf, openMemory, hasHeaderOf, samplerateOf, decodeOf, decodeMemory, decodeOutput};
+ghost use Rattle.header.specs.Readings.{readingBy};
+ghost use Rattle.audio.specs.Calls.{openOf, openMemory, hasHeaderOf};
 ghost use Rattle.audio.specs.Numbers.{headingNumber};
-ghost use Rattle.tag.specs.Decoders.{stateOf, placesOf, countsOf, timeOf, hertzOf, playedOf};
+ghost use Rattle.tag.specs.Boundary.{stateOf, placesOf, countsOf, timeOf, hertzOf, playedOf, TagTold, TagSamplerate, TagDecode};
 
-fn restore(places: &[usize; 6], counts: &[u32; 2], time: &[f64; 1]) -> Audio
+fn restore(places: &[usize; 8], counts: &[u32; 8], time: &[f64; 1]) -> Audio
     ensures { λ r. ⌜ r ≡ stateOf (now (places .entry)) (now (counts .entry)) (now (time .entry)) ⌝ }
 {
     let reader = Reader {
         at: BitIndex(places[0]),
     };
+    let reading = Reading { choices: counts[2] };
     let format = Format {
         samplerate: places[1],
         bitrate: places[2],
         mode: counts[0],
+        reading,
         bound: places[3],
     };
     Audio {
@@ -35,25 +38,31 @@ fn restore(places: &[usize; 6], counts: &[u32; 2], time: &[f64; 1]) -> Audio
     }
 }
 
-fn keep_places(a: Audio, places: &mut [usize; 6])
-    ensures { λ _. ⌜ now (places .exit) ≡ placesOf a (now (places .entry)) ⌝ }
+fn places_of(a: Audio) -> [usize; 8]
+    ensures { λ r. ⌜ r ≡ placesOf a ⌝ }
 {
     let reader = a.reader;
-    let format = a.format;
-    places[0] = reader.at.0;
-    places[1] = format.samplerate;
-    places[2] = format.bitrate;
-    places[3] = format.bound;
-    places[4] = a.pending;
-    places[5] = a.ring;
+    let f = a.format;
+    let pending = a.pending;
+    let ring = a.ring;
+    [
+        reader.at.0,
+        f.samplerate,
+        f.bitrate,
+        f.bound,
+        pending,
+        ring,
+        0,
+        0,
+    ]
 }
 
-fn keep_counts(a: Audio, counts: &mut [u32; 2])
-    ensures { λ _. ⌜ now (counts .exit) ≡ countsOf a (now (counts .entry)) ⌝ }
+fn counts_of(a: Audio) -> [u32; 8]
+    ensures { λ r. ⌜ r ≡ countsOf a ⌝ }
 {
-    let format = a.format;
-    counts[0] = format.mode;
-    counts[1] = a.frames;
+    let f = a.format;
+    let reading = f.reading;
+    [f.mode, a.frames, reading.choices, 0, 0, 0, 0, 0]
 }
 
 fn heading_number(h: Heading) -> u32
@@ -70,22 +79,21 @@ fn heading_number(h: Heading) -> u32
 pub extern "C" fn tag_open(
     stream: &[u8],
     memory: &mut [f32],
-    places: &mut [usize; 6],
-    counts: &mut [u32; 2],
+    places: &mut [usize; 8],
+    counts: &mut [u32; 8],
     time: &mut [f64; 1],
+    choices: u32,
 ) -> u32
-    ensures number { λ r. ⌜ r ≡ headingNumber (openOf (now (stream .entry)) (now (memory .entry)) .answer) ⌝ }
-    ensures cleared { λ _. ⌜ now (memory .exit) ≡ openMemory (now (stream .entry)) (now (memory .entry)) ⌝ }
-    ensures places { λ _. ⌜ now (places .exit) ≡ placesOf (openOf (now (stream .entry)) (now (memory .entry)) .state) (now (places .entry)) ⌝ }
-    ensures counts { λ _. ⌜ now (counts .exit) ≡ countsOf (openOf (now (stream .entry)) (now (memory .entry)) .state) (now (counts .entry)) ⌝ }
-    ensures time { λ _. ⌜ now (time .exit) ≡ timeOf (openOf (now (stream .entry)) (now (memory .entry)) .state) (now (time .entry)) ⌝ }
+    ensures { λ r. let x = openOf (readingBy choices) (now (stream .entry)) (now (memory .entry)) in
+        ⌜ TagTold x r (now (places .exit)) (now (counts .exit)) (now (time .exit)) ⌝ }
+    ensures { λ _. ⌜ now (memory .exit) ≡ openMemory (now (stream .entry)) (now (memory .entry)) ⌝ }
 {
-    let x = Audio::new(stream, memory);
+    let x = audio::new(stream, memory, header::reading_by(choices));
     let state = x.state;
     let answer = x.answer;
-    keep_places(state, places);
-    keep_counts(state, counts);
-    time[0] = state.time;
+    *places = places_of(state);
+    *counts = counts_of(state);
+    *time = [state.time];
     heading_number(answer)
 }
 
@@ -93,21 +101,19 @@ pub extern "C" fn tag_open(
 #[no_mangle]
 pub extern "C" fn tag_has_header(
     stream: &[u8],
-    places: &mut [usize; 6],
-    counts: &mut [u32; 2],
+    places: &mut [usize; 8],
+    counts: &mut [u32; 8],
     time: &mut [f64; 1],
 ) -> u32
-    ensures number { λ r. ⌜ r ≡ headingNumber (hasHeaderOf (now (stream .entry)) (stateOf (now (places .entry)) (now (counts .entry)) (now (time .entry))) .answer) ⌝ }
-    ensures places { λ _. ⌜ now (places .exit) ≡ placesOf (hasHeaderOf (now (stream .entry)) (stateOf (now (places .entry)) (now (counts .entry)) (now (time .entry))) .state) (now (places .entry)) ⌝ }
-    ensures counts { λ _. ⌜ now (counts .exit) ≡ countsOf (hasHeaderOf (now (stream .entry)) (stateOf (now (places .entry)) (now (counts .entry)) (now (time .entry))) .state) (now (counts .entry)) ⌝ }
-    ensures time { λ _. ⌜ now (time .exit) ≡ timeOf (hasHeaderOf (now (stream .entry)) (stateOf (now (places .entry)) (now (counts .entry)) (now (time .entry))) .state) (now (time .entry)) ⌝ }
+    ensures { λ r. let a = stateOf (now (places .entry)) (now (counts .entry)) (now (time .entry)) in
+        ⌜ TagTold (hasHeaderOf (now (stream .entry)) a) r (now (places .exit)) (now (counts .exit)) (now (time .exit)) ⌝ }
 {
-    let x = restore(places, counts, time).has_header(stream);
+    let x = audio::has_header(restore(places, counts, time), stream);
     let state = x.state;
     let answer = x.answer;
-    keep_places(state, places);
-    keep_counts(state, counts);
-    time[0] = state.time;
+    *places = places_of(state);
+    *counts = counts_of(state);
+    *time = [state.time];
     heading_number(answer)
 }
 
@@ -128,16 +134,15 @@ fn of_rate(r: Rate) -> Hertz
 
 #[no_mangle]
 pub extern "C" fn tag_samplerate(
-    places: &[usize; 6],
-    counts: &[u32; 2],
+    places: &[usize; 8],
+    counts: &[u32; 8],
     time: &[f64; 1],
     rate: &mut [u32; 1],
 ) -> u32
-    ensures number { λ r. ⌜ r ≡ hertzOf (samplerateOf (stateOf (now (places .entry)) (now (counts .entry)) (now (time .entry)))) .number ⌝ }
-    ensures rate { λ _. ⌜ now (rate .exit) ≡ set (now (rate .entry)) 0 (hertzOf (samplerateOf (stateOf (now (places .entry)) (now (counts .entry)) (now (time .entry)))) .rate) ⌝ }
+    ensures { λ r. ⌜ TagSamplerate (stateOf (now (places .entry)) (now (counts .entry)) (now (time .entry))) r (now (rate .exit)) ⌝ }
 {
-    let h = of_rate(restore(places, counts, time).samplerate());
-    rate[0] = h.rate;
+    let h = of_rate(audio::samplerate(restore(places, counts, time)));
+    *rate = [h.rate];
     h.number
 }
 
@@ -171,29 +176,24 @@ pub extern "C" fn tag_decode(
     stream: &[u8],
     memory: &mut [f32],
     output: &mut [f32],
-    places: &mut [usize; 6],
-    counts: &mut [u32; 2],
+    places: &mut [usize; 8],
+    counts: &mut [u32; 8],
     time: &mut [f64; 1],
     start: &mut [f64; 1],
     bits: &mut [usize; 1],
 ) -> u32
-    ensures number { λ r. ⌜ r ≡ playedOf (decodeOf (now (stream .entry)) (now (memory .entry)) (now (output .entry)) (stateOf (now (places .entry)) (now (counts .entry)) (now (time .entry))) .answer) .number ⌝ }
-    ensures memory { λ _. ⌜ now (memory .exit) ≡ decodeMemory (now (stream .entry)) (now (memory .entry)) (now (output .entry)) (stateOf (now (places .entry)) (now (counts .entry)) (now (time .entry))) ⌝ }
-    ensures output { λ _. ⌜ now (output .exit) ≡ decodeOutput (now (stream .entry)) (now (memory .entry)) (now (output .entry)) (stateOf (now (places .entry)) (now (counts .entry)) (now (time .entry))) ⌝ }
-    ensures places { λ _. ⌜ now (places .exit) ≡ placesOf (decodeOf (now (stream .entry)) (now (memory .entry)) (now (output .entry)) (stateOf (now (places .entry)) (now (counts .entry)) (now (time .entry))) .state) (now (places .entry)) ⌝ }
-    ensures counts { λ _. ⌜ now (counts .exit) ≡ countsOf (decodeOf (now (stream .entry)) (now (memory .entry)) (now (output .entry)) (stateOf (now (places .entry)) (now (counts .entry)) (now (time .entry))) .state) (now (counts .entry)) ⌝ }
-    ensures time { λ _. ⌜ now (time .exit) ≡ timeOf (decodeOf (now (stream .entry)) (now (memory .entry)) (now (output .entry)) (stateOf (now (places .entry)) (now (counts .entry)) (now (time .entry))) .state) (now (time .entry)) ⌝ }
-    ensures start { λ _. ⌜ now (start .exit) ≡ set (now (start .entry)) 0 (playedOf (decodeOf (now (stream .entry)) (now (memory .entry)) (now (output .entry)) (stateOf (now (places .entry)) (now (counts .entry)) (now (time .entry))) .answer) .start) ⌝ }
-    ensures bits { λ _. ⌜ now (bits .exit) ≡ set (now (bits .entry)) 0 (playedOf (decodeOf (now (stream .entry)) (now (memory .entry)) (now (output .entry)) (stateOf (now (places .entry)) (now (counts .entry)) (now (time .entry))) .answer) .bits) ⌝ }
+    ensures { λ r. let a = stateOf (now (places .entry)) (now (counts .entry)) (now (time .entry)) in
+        ⌜ TagDecode (now (stream .entry)) (now (memory .entry)) (now (output .entry)) a r (now (memory .exit)) (now (output .exit))
+        (now (places .exit)) (now (counts .exit)) (now (time .exit)) (now (start .exit)) (now (bits .exit)) ⌝ }
 {
-    let x = restore(places, counts, time).decode(stream, memory, output);
+    let x = audio::decode(restore(places, counts, time), stream, memory, output);
     let state = x.state;
     let answer = x.answer;
-    keep_places(state, places);
-    keep_counts(state, counts);
-    time[0] = state.time;
+    *places = places_of(state);
+    *counts = counts_of(state);
+    *time = [state.time];
     let p = of_answer(answer);
-    start[0] = p.start;
-    bits[0] = p.bits;
+    *start = [p.start];
+    *bits = [p.bits];
     p.number
 }

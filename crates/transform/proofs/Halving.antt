@@ -12,7 +12,7 @@ use lib.ListN.{length, take, set, length-set}
 use lib.Seq.{take-all, length-take-le, getD-take, getD-set-same, getD-set-other}
 use lib.Ieee.{Float, nan}
 use Rattle.ground.specs.Table.{table, is-table}
-use Rattle.transform.specs.Transform.{at, sum-at, difference-at, sumsOf, differencesOf, factorsOf, joined-at, woven-at, wovenOf, transform}
+use Rattle.transform.specs.Transform.{at, sum-at, difference-at, sumsOf, differencesOf, halvingFactors, joined-at, woven-at, wovenOf, transform}
 
 -- ---- the weave
 
@@ -24,12 +24,15 @@ module _ (p q : ℕ → Float) (values : List Float) (i : ℕ) (room : i + i + 1
   abbrev even : List Float
   even = set values (i + i) (p i)
 
+  earlier : (k : ℕ) → k < i + i → at (set even (i + i + 1) (q i)) k ≡ at values k
+  earlier k h = getD-set-other even (i + i + 1) k (q i) nan (λ e. omega arith) ∙ getD-set-other values (i + i) k (p i) nan (λ e. omega arith)
+
   pub weave-more : ((k : ℕ) → k < i → Pair p q values k) → (k : ℕ) → k < i + 1 → Pair p q (set even (i + i + 1) (q i)) k
   weave-more r =
       below-more (Pair p q (set even (i + i + 1) (q i))) i
       (λ k h. (
-        getD-set-other even (i + i + 1) (k + k) (q i) nan (λ e. omega arith) ∙ getD-set-other values (i + i) (k + k) (p i) nan (λ e. omega arith) ∙ r k h .0,
-        getD-set-other even (i + i + 1) (k + k + 1) (q i) nan (λ e. omega arith) ∙ getD-set-other values (i + i) (k + k + 1) (p i) nan (λ e. omega arith) ∙ r k h .1,
+        earlier (k + k) (omega arith) ∙ r k h .0,
+        earlier (k + k + 1) (omega arith) ∙ r k h .1,
       )) (
         getD-set-other even (i + i + 1) (i + i) (q i) nan (λ e. omega arith) ∙ getD-set-same values (i + i) (p i) nan (omega arith),
         getD-set-same even (i + i + 1) (q i) nan (rw length-set room),
@@ -52,7 +55,7 @@ module _ (h : ℕ) (first second values : List Float) where
 
 -- at width 2
 pub narrow : (f : Float) (values : List Float) → length values ≡ 2
-    → set (set values 0 (sum-at 1 values 0)) 1 (difference-at 1 (factorsOf f 0) values 0) ≡ transform 1 f f values
+    → set (set values 0 (sum-at 1 values 0)) 1 (difference-at 1 (halvingFactors f 0) values 0) ≡ transform 1 f f values
 unfolding transform sumsOf differencesOf wovenOf table
 narrow f (a ∷ b ∷ []) e = refl
 narrow f [] e = absurd (omega arith)
@@ -62,7 +65,7 @@ narrow f (a ∷ b ∷ c ∷ more) e = absurd (omega arith)
 -- a and b: the transforms of the halves s and t, which values gives by its sums and its differences
 pub wide : (k : ℕ) (f d : Float) (values result s t a b : List Float)
     → length result ≡ 2 ^ k + 2 ^ k → length a ≡ 2 ^ k → take (length a + length a) result ≡ wovenOf (length a) a b
-    → (s ≡ sumsOf (2 ^ k) values) × (t ≡ differencesOf (2 ^ k) (factorsOf f k) values)
+    → (s ≡ sumsOf (2 ^ k) values) × (t ≡ differencesOf (2 ^ k) (halvingFactors f k) values)
     → a ≡ transform k f f s → b ≡ transform k d d t → result ≡ transform (suc k) f d values
 unfolding transform
 wide k f d values result s t a b n e w h ra rb =

@@ -21,8 +21,8 @@ f32 bits = ofBits binary32 bits
 -- ---- the factors, each the f32 nearest the source's literal
 
 -- row k: those of width 2 ^ (k + 1), 1 / (2 cos (pi (2 i + 1) / 2 ^ (k + 2))), but for the first of width 16, which is given
-unfoldable pub factorsOf : Float → ℕ → List Float
-factorsOf first k =
+unfoldable pub halvingFactors : Float → ℕ → List Float
+halvingFactors first k =
     getD
     ((f32 0x3f3504f3 ∷ [])
     ∷ (f32 0x3f0a8bd4 ∷ f32 0x3fa73d75 ∷ [])
@@ -34,11 +34,11 @@ factorsOf first k =
     k []
 
 -- the first factor of width 16: 0.502419286188 in the half of the sums, 0.500602998235 in the half of the differences
-abbrev pub usual : Float
-usual = f32 0x3f009e8d
+abbrev pub usualFactor : Float
+usualFactor = f32 0x3f009e8d
 
-abbrev pub other : Float
-other = f32 0x3f002785
+abbrev pub otherFactor : Float
+otherFactor = f32 0x3f002785
 
 -- ---- one halving: 2 h values become h sums and h differences, and the two halves' results are woven into 2 h
 
@@ -68,7 +68,7 @@ wovenOf h first second = table (h + h) (woven-at h first second)
 unfoldable pub transform : ℕ → Float → Float → List Float → List Float
 transform zero f d values = values
 transform (suc k) f d values =
-    wovenOf (2 ^ k) (transform k f f (sumsOf (2 ^ k) values)) (transform k d d (differencesOf (2 ^ k) (factorsOf f k) values))
+    wovenOf (2 ^ k) (transform k f f (sumsOf (2 ^ k) values)) (transform k d d (differencesOf (2 ^ k) (halvingFactors f k) values))
 
 -- ---- from 32 samples to the 64 values of a slot
 
@@ -76,10 +76,10 @@ transform (suc k) f d values =
 abbrev pub Small : List ℤ → Type 0
 Small samples = (i : ℕ) → i < length samples → T (inFloat binary32 (getD samples i (pos 0)))
 
-pub exact : (n : ℤ) → natAbs n ≤ 2 ^ 24 → T (inFloat binary32 n)
+pub exact-float : (n : ℤ) → natAbs n ≤ 2 ^ 24 → T (inFloat binary32 n)
 unfolding inFloat
-exact (pos n) h = le→leb n (2 ^ 24) h
-exact (negsuc n) h = lt→ltb n (2 ^ 24) (omega arith)
+exact-float (pos n) h = le→leb n (2 ^ 24) h
+exact-float (negsuc n) h = lt→ltb n (2 ^ 24) (omega arith)
 
 abbrev pub float-at : List ℤ → ℕ → Float
 float-at samples i = ofInt binary32 (getD samples i (pos 0))
@@ -98,8 +98,8 @@ slotOf results = table 64 (slot-at results)
 
 -- `idct36`
 unfoldable pub idct : List ℤ → List Float
-idct samples = slotOf (transform 5 usual other (floats samples))
+idct samples = slotOf (transform 5 usualFactor otherFactor (floats samples))
 
 pub idct-length : (samples : List ℤ) → length (idct samples) ≡ 64
 unfolding idct slotOf
-idct-length samples = length-table 64 (slot-at (transform 5 usual other (floats samples)))
+idct-length samples = length-table 64 (slot-at (transform 5 usualFactor otherFactor (floats samples)))

@@ -5,7 +5,7 @@ ghost use Prim.Native.Nat.{ℕ, _+_, _≤_, _<_};
 ghost use lib.ListN.{length, take};
 ghost use lib.Dec.{T};
 ghost use lib.Ieee.{Float, binary32, inFloat, ofInt};
-ghost use Rattle.transform.specs.Transform.{at, factorsOf, transform, sumsOf, differencesOf, joined-at, wovenOf, usual, other, Small, floats, slot-at, slotOf, idct};
+ghost use Rattle.transform.specs.Transform.{at, halvingFactors, transform, sumsOf, differencesOf, joined-at, wovenOf, usualFactor, otherFactor, Small, floats, slot-at, slotOf, idct};
 
 // The factors of the differences at width 32, 16, 8 and 4, as in the source.
 const FACTORS_32: [f32; 16] = [
@@ -61,8 +61,10 @@ const FACTORS_4: [f32; 2] = [0.541196100146, 1.30656296488];
 
 // The sums of mirrored values, and their differences, each times its factor.
 fn halve(values: &[f32], factors: &[f32], sums: &mut [f32], differences: &mut [f32])
-    requires { ⌜ (length (now sums) + length (now sums) ≤ length (now values)) × (length (now differences) ≡ length (now sums)) × (length (now factors) ≡ length (now sums)) × (length (now sums) ≤ 16) ⌝ }
-    ensures { λ _. do h ← ⟦sums.len()⟧ .entry; ⌜ (now (sums .exit) ≡ sumsOf h (now (values .entry))) × (now (differences .exit) ≡ differencesOf h (now (factors .entry)) (now (values .entry))) ⌝ }
+    requires { ⌜ (length (now sums) + length (now sums) ≤ length (now values)) × (length (now differences) ≡ length (now sums))
+        × (length (now factors) ≡ length (now sums)) × (length (now sums) ≤ 16) ⌝ }
+    ensures { λ _. do h ← ⟦sums.len()⟧ .entry; ⌜ now (sums .exit) ≡ sumsOf h (now (values .entry)) ⌝ }
+    ensures { λ _. do h ← ⟦sums.len()⟧ .entry; ⌜ now (differences .exit) ≡ differencesOf h (now (factors .entry)) (now (values .entry)) ⌝ }
 {
     let half = sums.len();
     let mut i = 0;
@@ -138,7 +140,7 @@ fn pass8(values: &mut [f32])
 
 // The first factor of this width is given: in the source it is not the same in both halves of the 32.
 fn pass16(values: &mut [f32], factors: &[f32])
-    requires { ⌜ (length (now values) ≡ 16) × (now factors ≡ factorsOf (at (now factors) 0) 3) ⌝ }
+    requires { ⌜ (length (now values) ≡ 16) × (now factors ≡ halvingFactors (at (now factors) 0) 3) ⌝ }
     ensures { λ _. ⌜ now (values .exit) ≡ transform 4 (at (now (factors .entry)) 0) (at (now (factors .entry)) 0) (now (values .entry)) ⌝ }
 {
     let mut sums = [0.0f32; 8];
@@ -151,7 +153,7 @@ fn pass16(values: &mut [f32], factors: &[f32])
 
 fn pass32(values: &mut [f32])
     requires { ⌜ length (now values) ≡ 32 ⌝ }
-    ensures { λ _. ⌜ now (values .exit) ≡ transform 5 usual other (now (values .entry)) ⌝ }
+    ensures { λ _. ⌜ now (values .exit) ≡ transform 5 usualFactor otherFactor (now (values .entry)) ⌝ }
 {
     let mut sums = [0.0f32; 16];
     let mut differences = [0.0f32; 16];
@@ -198,7 +200,8 @@ fn spread(results: &[f32], i: usize) -> f32
 
 // The values of a slot up to `to`, of which those below `from` stand there already.
 fn spread_part(results: &[f32], slot: &mut [f32], from: usize, to: usize)
-    requires { ⌜ (length (now results) ≡ 32) × (length (now slot) ≡ 64) × (from ≤ to) × (to ≤ 64) × ((k : ℕ) → k < from → at (now slot) k ≡ slot-at (now results) k) ⌝ }
+    requires { ⌜ (length (now results) ≡ 32) × (length (now slot) ≡ 64) × (from ≤ to) × (to ≤ 64)
+        × ((k : ℕ) → k < from → at (now slot) k ≡ slot-at (now results) k) ⌝ }
     ensures { λ _. ⌜ ((k : ℕ) → k < to → at (now (slot .exit)) k ≡ slot-at (now (results .entry)) k) ⌝ }
 {
     let mut i = from;

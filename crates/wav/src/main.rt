@@ -21,8 +21,8 @@ fn put_frames(stream: &[u8], frames: usize) -> usize
     requires { ⌜ frames ≡ length (clipOf (now stream)) ⌝ }
     ensures { λ r. ⌜ (r ≡ length (partsOf (now (stream .entry)))) ⊎ (r ≡ 0) ⌝ }
 {
-    let mut memory = [0.0f32; 2048];
-    let mut output = [0.0f32; 2304];
+    let mut memory = [0.0f32; synthesis::MEMORY];
+    let mut output = [0.0f32; synthesis::OUTPUT];
     let mut bytes = [0u8; 4608];
     let mut playing = clip::start(stream, &mut memory);
     let mut i = 0;

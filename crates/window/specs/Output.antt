@@ -12,7 +12,7 @@ use Rattle.window.specs.Window.{windowAt}
 -- a ring position: a multiple of 64 below 1,024
 pub record Place (p : ℕ) : Type 0 where
   pub whole : p % 64 ≡ 0
-  pub below : p < 1024
+  pub onRing : p < 1024
 
 -- +0.0, and -1090519040 = -65 * 2 ^ 24
 abbrev pub nought : Float

@@ -7,15 +7,16 @@ use lib.IntN.{pos}
 use lib.Ieee.{fin, nan, ofBits}
 use lib.ListN.{length, getD, length-set}
 use Rattle.ground.specs.Table.{is-table, table-more}
+use Rattle.synthesis.specs.Slots.{memoryLength}
 use Rattle.audio.specs.Calls.{blank}
 use Rattle.audio.proofs.clear.Statement.{statement}
 use Rattle.audio.proofs.clear.Tie as tie
 
 abbrev Inv-loop : tie.InvT-loop
-Inv-loop memory₀ i₀ memory i = (i ≤ 2048) × (length memory ≡ 2048) × ((k : ℕ) → k < i → getD memory k nan ≡ fin false 0 (pos 0))
+Inv-loop memory₀ i₀ memory i = (i ≤ memoryLength) × (length memory ≡ memoryLength) × ((k : ℕ) → k < i → getD memory k nan ≡ fin false 0 (pos 0))
 
 abbrev μ-loop : tie.MeasureT-loop
-μ-loop memory₀ i₀ memory i = 2048 - i
+μ-loop memory₀ i₀ memory i = memoryLength - i
 
 loop-holds : tie.Need-loop-holds Inv-loop μ-loop
 loop-holds c = (omega arith, c .pre, λ k h. absurd (let z : k < 0 = h in omega arith))
@@ -43,7 +44,7 @@ same-length c = c .before .loop .inv .1 ∙ sym (c .before .before .pre)
 
 returns : tie.Need-returns Inv-loop μ-loop
 unfolding blank
-returns c = let l = c .before .loop in is-table nan 2048 (λ _. fin false 0 (pos 0)) (l .memory) (l .inv .1) (λ k h. l .inv .2 k (omega arith))
+returns c = let l = c .before .loop in is-table nan memoryLength (λ _. fin false 0 (pos 0)) (l .memory) (l .inv .1) (λ k h. l .inv .2 k (omega arith))
 
 pub clear-spec : {M : Type 1} → statement M
 clear-spec =

@@ -56,17 +56,21 @@ add-result-3 : tie.Need-add-result-3
 add-result-3 c = search needs
 
 returns : tie.Need-returns
-returns c = (
-  omega (
-    arith,
-    four-bytes (c .before .before .before .before .before .before .before .before .before .args .s .now) (c .before .before .before .before .before .before .before .before .before .args .i),
-    c .wide4 .ensures,
-    c .before .before .wide3 .ensures,
-    c .before .before .before .before .wide2 .ensures,
-    c .before .before .before .before .before .before .wide .ensures,
-  ),
-  omega arith,
-)
+returns c =
+    let at-third = c .before .before in
+    let at-second = at-third .before .before in
+    let at-first = at-second .before .before in
+    let a = at-first .before .before .before .args in (
+      omega (
+        arith,
+        four-bytes (a .s .now) (a .i),
+        c .wide4 .ensures,
+        at-third .wide3 .ensures,
+        at-second .wide2 .ensures,
+        at-first .wide .ensures,
+      ),
+      omega arith,
+    )
 
 pub half-spec : {M : Type 1} → statement M
 half-spec =

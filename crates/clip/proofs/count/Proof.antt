@@ -7,6 +7,7 @@ use mathlib.Core.Logic.{⊎-elim}
 use native.Mathlib.Omega.{arith}
 use lib.ListN.{length}
 use borrow.Author.Needs.{needs}
+use Rattle.synthesis.specs.Slots.{memoryLength, outputLength}
 use Rattle.clip.specs.Frames.{Heard, clipOf, rateIn}
 use Rattle.clip.specs.declared.Reached.{Reached}
 use Rattle.clip.specs.Turns.{heardBy, heard-next, few-in-clip, begins, one-found, none-found, one-fewer}
@@ -18,12 +19,22 @@ heardFrom s at memory output = heardBy s (record { reached = at; memory = memory
 
 abbrev Inv-loop : tie.InvT-loop
 Inv-loop stream memory₀ output₀ at₀ rate frames₀ memory output at frames =
-    (length memory ≡ 2048) × (length output ≡ 2304) × (rate ≡ rateIn (clipOf stream))
+    (length memory ≡ memoryLength) × (length output ≡ outputLength) × (rate ≡ rateIn (clipOf stream))
     × (frames + length (heardFrom stream at memory output) ≡ length (clipOf stream))
 
 abbrev μ-loop : tie.MeasureT-loop
 μ-loop stream memory₀ output₀ at₀ rate frames₀ memory output at frames =
     length (heardFrom stream at memory output)
+
+-- from the loop's head back to the entry; and from the end of a turn to its head
+abbrev stream-at : tie.At-loop Inv-loop μ-loop → List ℕ
+stream-at c =
+    let at-next = c .before .before .before .before in
+    let at-start = at-next .before .before .before .before in
+    at-start .before .before .before .args .stream .now
+
+abbrev at-loop : tie.After-output4 Inv-loop μ-loop → tie.At-loop Inv-loop μ-loop
+at-loop c = let at-playing = c .before .before .before .before .before in at-playing .before .before
 
 slice-aggregate-start : tie.Need-slice-aggregate-start Inv-loop μ-loop
 slice-aggregate-start c = search needs
@@ -43,8 +54,9 @@ next-requires c κs = search needs
 loop-holds : tie.Need-loop-holds Inv-loop μ-loop
 unfolding ofBits
 loop-holds c =
-    let o = c .before .before .before .before .before .before .before .start .ensures in
-    let e = c .before .before .before .next .ensures in
+    let at-next = c .before .before .before in
+    let o = at-next .before .before .before .before .start .ensures in
+    let e = at-next .next .ensures in
     let is = begins _ _ _ (o .0) (o .1) ∙ heard-next _ _ _ _ _ _ _ _ (e .0) (e .1 .0) (e .1 .1) in (
       search needs,
       search needs,
@@ -54,7 +66,9 @@ loop-holds c =
 
 add-frames : tie.Need-add-frames Inv-loop μ-loop
 add-frames c =
-    let entry = c .before .before .before .before .before .before .before .before .before .before .before .before in
+    let at-next = c .before .before .before .before .before in
+    let at-start = at-next .before .before .before .before in
+    let entry = at-start .before .before .before in
     record { fits = omega (arith, entry .good .0, few-in-clip (entry .args .stream .now)) }
 
 slice-aggregate-next-3 : tie.Need-slice-aggregate-next-3 Inv-loop μ-loop
@@ -66,23 +80,24 @@ slice-aggregate-next-4 c = search needs
 next-requires-2 : tie.Need-next-requires-2 Inv-loop μ-loop
 next-requires-2 c κs = search needs
 
-one-less : (c : tie.After-output4 Inv-loop μ-loop) → let head = c .before .before .before .before .before .before .before in let l = head .loop in let n = c .before .before .next2 in
-    let s = head .before .before .before .before .before .before .before .before .before .before .before .args .stream .now in
+-- what is heard from a turn's head is its frame and what is heard from its end
+one-less : (c : tie.After-output4 Inv-loop μ-loop) → let l = at-loop c .loop in let n = c .before .before .next2 in let s = stream-at (at-loop c) in
     length (heardFrom s (l .at) (l .memory) (l .output)) ≡ suc (length (heardFrom s (n .result) (n .last .1 .1 .0) (n .last .1 .1 .1 .0)))
 one-less c =
     let e = c .before .before .next2 .ensures in
-    one-fewer _ _ _ (c .before .before .before .before .before .before .loop-test .taken) (heard-next _ _ _ _ _ _ _ _ (e .0) (e .1 .0) (e .1 .1))
+    let at-playing = c .before .before .before .before .before in
+    one-fewer _ _ _ (at-playing .before .loop-test .taken) (heard-next _ _ _ _ _ _ _ _ (e .0) (e .1 .0) (e .1 .1))
 
 loop-less : tie.Need-loop-less Inv-loop μ-loop
 loop-less c = omega (arith, one-less c)
 
 loop-again : tie.Need-loop-again Inv-loop μ-loop
-loop-again c = (search needs, search needs, search needs, omega (arith, one-less c, c .before .before .before .before .before .before .before .loop .inv .3))
+loop-again c = (search needs, search needs, search needs, omega (arith, one-less c, at-loop c .loop .inv .3))
 
 returns : tie.Need-returns Inv-loop μ-loop
 returns c =
     let l = c .before .loop in
-    let s = c .before .before .before .before .before .before .before .before .before .before .before .before .args .stream .now in
+    let s = stream-at (c .before) in
     let none = none-found s (record { reached = l .at; memory = l .memory; output = l .output }) (c .loop-test .left) in
     let all : l .frames ≡ length (clipOf s) = omega (arith, l .inv .3, ap length none) in
     cc (l .inv .2, all)

@@ -1,5 +1,5 @@
 use Rattle.clock.specs.Clock.{onTime}
-use Rattle.clock.proofs.Real.{start-real}
+use Rattle.clock.specs.Laws.{start-real}
 use borrow.Author.Needs.{needs}
 use Rattle.clock.proofs.on_time.Statement.{statement}
 use Rattle.clock.proofs.on_time.Tie as tie

@@ -7,10 +7,10 @@ use lib.Dec.{le→leb}
 use lib.Ieee.{ofBits, inFloat}
 use Rattle.clock.proofs.start_time.Statement.{statement}
 use Rattle.clock.proofs.start_time.Tie as tie
-use Rattle.clock.specs.Clock.{startOf}
+use Rattle.clock.specs.Clock.{startTimeOf}
 
 returns : tie.Need-returns
-unfolding startOf ofBits
+unfolding startTimeOf ofBits
 returns c = simp (le-leb _ _ (c .if1 .taken))
 
 mul-samples : tie.Need-mul-samples
@@ -27,7 +27,7 @@ int-to-float-result-2 : tie.Need-int-to-float-result-2
 int-to-float-result-2 c = search needs
 
 returns-2 : tie.Need-returns-2
-unfolding startOf
+unfolding startTimeOf
 returns-2 c = simp (lt-leb _ _ (c .before .before .before .if1 .left), c .before .before .rate .ensures)
 
 pub start-time-spec : {M : Type 1} → statement M

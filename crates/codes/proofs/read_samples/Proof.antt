@@ -1,10 +1,10 @@
 -- `codes::read_samples` meets its contract: a code is one that its quantiser can have, so no step leaves the `i32`.
-use Rattle.ground.specs.Magnitude.{back}
+use Rattle.ground.specs.Magnitude.{read-back}
 use Rattle.grammar.specs.Values.{learnt}
 use Rattle.grammar.specs.Run.{run-done, andThen}
-use Rattle.samples.specs.Bounds.{mostOf, Range, ranged}
-use Rattle.codes.specs.Values.{Small, codes-small}
-use Rattle.codes.specs.Frame.{codesOf, samplesOf}
+use Rattle.samples.specs.Bounds.{mostOf, Range, quantiser-range}
+use Rattle.codes.specs.Values.{CodesUpTo, codes-small}
+use Rattle.codes.specs.Frame.{codesOf, threeSamplesOf}
 use Rattle.codes.proofs.Stored.{asks, stored}
 use borrow.Author.Needs.{needs}
 use Rattle.codes.proofs.read_samples.Statement.{statement}
@@ -12,15 +12,18 @@ use Rattle.codes.proofs.read_samples.Tie as tie
 
 -- what is known once the codes and the quantiser's numbers are there
 module _ (c : tie.After-scale) where
+  abbrev at-codes : tie.After-read-codes
+  at-codes = c .before .before .before .before
+
   abbrev start : tie.Start
-  start = c .before .before .before .before .before .before
+  start = at-codes .before .before
 
   range : Range (start .args .q)
-  range = ranged (start .args .q) (start .pre .0) (start .pre .1)
+  range = quantiser-range (start .args .q) (start .pre .0) (start .pre .1)
 
-  small : Small (mostOf (start .args .q)) (c .before .before .before .before .read-codes .result .codes)
+  small : CodesUpTo (mostOf (start .args .q)) (at-codes .read-codes .result .codes)
   small =
-      learnt (Small (mostOf (start .args .q))) (codesOf (start .args .q)) _ _ (c .before .before .before .before .read-codes .ensures)
+      learnt (CodesUpTo (mostOf (start .args .q))) (codesOf (start .args .q)) _ _ (at-codes .read-codes .ensures)
       (codes-small (start .args .q) (start .pre .0) (start .pre .1))
 
 read-codes-requires : tie.Need-read-codes-requires
@@ -49,20 +52,22 @@ store-samples-requires : tie.Need-store-samples-requires
 store-samples-requires c κs = search needs
 
 returns : tie.Need-returns
-unfolding samplesOf
+unfolding threeSamplesOf
 returns c =
     let third = c .before .before in
     let second = third .before in
     let first = second .before in
     let l = first .before in
     let a = start l .args in
-    andThen _ _ _ _ (c .before .before .before .before .before .before .before .before .before .read-codes .ensures)
+    andThen _ _ _ _ (at-codes l .read-codes .ensures)
     (simp run-done
-    (stored (a .q) (a .factor) (a .place) (a .sample .now) _ (c .before .before .before .before .before .before .before .before .before .read-codes .result .codes) (l .before .adj .ensures) (l .scale .ensures)
+    (stored (a .q) (a .factor) (a .place) (a .sample .now) _ (at-codes l .read-codes .result .codes) (l .before .adj .ensures) (l .scale .ensures)
     (first .sample .ensures .0) (second .sample2 .ensures .0) (third .sample3 .ensures .0)
-    (simp
-    (back (first .sample .result) (first .sample .ensures .1) tt, back (second .sample2 .result) (second .sample2 .ensures .1) tt, back (third .sample3 .result) (third .sample3 .ensures .1) tt)
-    at (c .store-samples .ensures))))
+    (simp (
+      read-back (first .sample .result) (first .sample .ensures .1) tt,
+      read-back (second .sample2 .result) (second .sample2 .ensures .1) tt,
+      read-back (third .sample3 .result) (third .sample3 .ensures .1) tt,
+    ) at (c .store-samples .ensures))))
 
 pub read-samples-spec : {M : Type 1} → statement M
 read-samples-spec =

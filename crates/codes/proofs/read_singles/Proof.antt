@@ -1,5 +1,6 @@
 -- `codes::read_singles` meets its contract.
-use Rattle.grammar.specs.Reads.{run}
+use mathlib.Core.Path.{sym}
+use Rattle.grammar.specs.Run.{fieldThen, run-done}
 use Rattle.codes.specs.Frame.{singlesOf}
 use borrow.Author.Needs.{needs}
 use Rattle.codes.proofs.read_singles.Statement.{statement}
@@ -15,8 +16,13 @@ field-requires-3 : tie.Need-field-requires-3
 field-requires-3 c κs = search needs
 
 returns : tie.Need-returns
-unfolding singlesOf run
-returns c = cc (c .before .field3 .ensures .is, c .before .before .before .field2 .ensures .is, c .before .before .before .before .before .field .ensures .is)
+unfolding singlesOf
+returns c =
+    let at-field3 = c .before in
+    let at-field2 = at-field3 .before .before in
+    let at-field = at-field2 .before .before in
+    fieldThen _ _ _ _ (at-field .field .ensures .is)
+    (fieldThen _ _ _ _ (at-field2 .field2 .ensures .is) (fieldThen _ _ _ _ (at-field3 .field3 .ensures .is) (sym (run-done _ _ _))))
 
 pub read-singles-spec : {M : Type 1} → statement M
 read-singles-spec = tie.close (tie.spec field-requires field-requires-2 field-requires-3 returns)

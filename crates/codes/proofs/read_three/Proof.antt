@@ -17,10 +17,13 @@ cut-in-three-requires c κs = search needs
 
 returns : tie.Need-returns
 returns c =
-    let start = c .before .before .before .before .before .before .before .before in
-    let f = c .before .before .before .before .before .field in
+    let at-moved = c .before in
+    let at-field = at-moved .before .before .before .before in
+    let at-narrow = at-field .before in
+    let a = at-narrow .before .before .args in
+    let f = at-field .field in
     ap (λ k. ran k (f .result .next)) (c .cut-in-three .ensures)
-    ∙ at-once (start .args .s .now) (start .args .reader) (start .args .bits) (f .result) (f .ensures .is) (c .before .before .before .before .before .before .if1 .taken) (c .before .if2 .taken)
+    ∙ at-once (a .s .now) (a .reader) (a .bits) (f .result) (f .ensures .is) (at-narrow .if1 .taken) (at-moved .if2 .taken)
 
 read-singles-requires : tie.Need-read-singles-requires
 read-singles-requires c κs = search needs

@@ -20,14 +20,19 @@ read-place-requires-2 c κs = search needs
 
 returns : tie.Need-returns
 unfolding sampleBandOf pairOf
-returns c = andThen _ _ _ _ (c .before .before .before .read-place .ensures) (simp (lt-ltb _ _ (c .before .before .if1 .taken)) (c .read-place2 .ensures))
+returns c =
+    andThen _ _ _ _ (c .before .before .before .read-place .ensures)
+    (simp (lt-ltb _ _ (c .before .before .if1 .taken)) (c .read-place2 .ensures))
 
 copy-band-requires : tie.Need-copy-band-requires
 copy-band-requires c κs = search needs
 
 returns-2 : tie.Need-returns-2
 unfolding sampleBandOf pairOf
-returns-2 c = andThen _ _ _ _ (c .before .before .before .read-place .ensures) (simp (le-ltb _ _ (c .before .before .if1 .left), run-done) (ap (λ xs. ran xs (c .before .before .before .read-place .result)) (c .copy-band .ensures)))
+returns-2 c =
+    andThen _ _ _ _ (c .before .before .before .read-place .ensures)
+    (simp (le-ltb _ _ (c .before .before .if1 .left), run-done)
+    (ap (λ xs. ran xs (c .before .before .before .read-place .result)) (c .copy-band .ensures)))
 
 pub sample-band-spec : {M : Type 1} → statement M
 sample-band-spec =

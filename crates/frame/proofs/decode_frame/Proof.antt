@@ -2,8 +2,8 @@ use native.Mathlib.Omega.{arith}
 use mathlib.Core.Path.{ap, _∙_}
 use Rattle.tables.specs.Laws.{limit≤30}
 use Rattle.grammar.specs.Values.{learnt}
-use Rattle.side.specs.Values.{Ranged, side-ranged}
-use Rattle.frame.specs.Frame.{memoryOf, outputOf}
+use Rattle.side.specs.Values.{SideInRange, side-ranged}
+use Rattle.frame.specs.Frame.{frameMemory, frameOutput}
 use Rattle.frame.proofs.Whole.{table<2, whole}
 use borrow.Author.Needs.{needs}
 use Rattle.frame.proofs.decode_frame.Statement.{statement}
@@ -20,13 +20,11 @@ cut-requires c κs = search needs
 
 read-side-requires : tie.Need-read-side-requires
 read-side-requires c κs =
-    let f = c .before .before .before .before .before .before .before .args .f in (
-      rw (c .before .before .allocation-table .ensures) (table<2 (f .mode) (f .bitrate) (f .samplerate)),
-      omega (
-        arith,
-        c .before .before .before .limit .ensures,
-        limit≤30 (f .mode) (f .bitrate) (f .samplerate),
-      ),
+    let at-table = c .before .before in
+    let at-limit = at-table .before in
+    let f = at-limit .before .before .before .before .args .f in (
+      rw (at-table .allocation-table .ensures) (table<2 (f .mode) (f .bitrate) (f .samplerate)),
+      omega (arith, at-limit .limit .ensures, limit≤30 (f .mode) (f .bitrate) (f .samplerate)),
     )
 
 synthesis-window-requires : tie.Need-synthesis-window-requires
@@ -34,21 +32,21 @@ synthesis-window-requires c κs = search needs
 
 granules-requires : tie.Need-granules-requires
 granules-requires c κs =
-    let p = c .before .before .before .before .before .before .before .before .before .before .before .before .before .before .before .before .before .pre in
-    let f = c .before .before .before .before .before .before .before .before .before .before .before .before .before .before .before .before .before .args .f in
-    let w = learnt Ranged _ _ _ (c .before .before .before .before .before .before .before .before .before .read-side .ensures) (side-ranged _ _ _ _) in (
-      omega (
-        arith,
-        c .before .before .before .before .before .before .before .before .before .before .before .before .before .limit .ensures,
-        limit≤30 (f .mode) (f .bitrate) (f .samplerate),
-      ),
-      w .quant,
-      w .factor,
-      p .1,
-      c .before .before .before .before .before .synthesis-window .ensures,
-      p .2,
-      p .3,
-    )
+    let at-window = c .before .before .before .before .before in
+    let at-side = at-window .before .before .before .before in
+    let at-limit = at-side .before .before .before .before in
+    let start = at-limit .before .before .before .before in
+    let f = start .args .f in
+    let inside = learnt SideInRange _ _ _ (at-side .read-side .ensures) (side-ranged _ _ _ _) in
+    record {
+      limited = omega (arith, at-limit .limit .ensures, limit≤30 (f .mode) (f .bitrate) (f .samplerate));
+      quantisers = inside .quant;
+      factors = inside .factor;
+      place = start .pre .1;
+      window-is = at-window .synthesis-window .ensures;
+      memory-long = start .pre .2;
+      output-long = start .pre .3;
+    }
 
 same-length : tie.Need-same-length
 same-length c = search needs
@@ -56,20 +54,25 @@ same-length c = search needs
 same-length-2 : tie.Need-same-length-2
 same-length-2 c = search needs
 
+-- the granules behind the side information are the whole frame's
 returns : tie.Need-returns
 returns c =
-    let played = c .before .before .before .before .granules .ensures in
-    let side = c .before .before .before .before .before .before .before .before .before .before .before .before .before .before in
-    let a = side .before .before .before .before .before .before .before .before .args in
-    let w =
-    whole _ _ _ (a .f) _ _ _ _ (side .before .before .before .before .limit .ensures) (side .before .before .before .allocation-table .ensures) (side .before .before .cut .ensures)
-    (side .read-side .ensures) in (
-      (played .0 .0 ∙ ap (λ z. z .next) w, played .0 .1),
-      (
-        played .1 .0 ∙ ap (λ z. memoryOf (z .value) (a .ring) (a .memory .now)) w,
-        played .1 .1 ∙ ap (λ z. outputOf (z .value) (a .ring) (a .memory .now) (a .output .now)) w,
-      ),
-    )
+    let at-granules = c .before .before .before .before in
+    let at-lent = at-granules .before .before .before in
+    let at-window = at-lent .before .before .before in
+    let at-side = at-window .before .before .before .before in
+    let at-cut = at-side .before .before in
+    let at-table = at-cut .before in
+    let at-limit = at-table .before in
+    let a = at-limit .before .before .before .before .args in
+    let played = at-granules .granules .ensures in
+    let w = whole _ _ _ (a .f) _ _ _ _ (at-limit .limit .ensures) (at-table .allocation-table .ensures) (at-cut .cut .ensures) (at-side .read-side .ensures) in
+    record {
+      end-is = played .end-is ∙ ap (λ z. z .next) w;
+      ring-is = played .ring-is;
+      memory-is = played .memory-is ∙ ap (λ z. frameMemory (z .value) (a .ring) (a .memory .now)) w;
+      output-is = played .output-is ∙ ap (λ z. frameOutput (z .value) (a .ring) (a .memory .now) (a .output .now)) w;
+    }
 
 pub decode-frame-spec : {M : Type 1} → statement M
 decode-frame-spec =

@@ -1,8 +1,6 @@
 use native.Mathlib.Omega.{arith}
-use mathlib.Core.Path.{_≡_, ap, sym, _∙_}
 use Rattle.header.specs.Header.{sizeOf}
-use Rattle.header.specs.Accepted.{sizes}
-use Rattle.ground.specs.Tests.{tests}
+use Rattle.header.specs.Accepted.{frame-sizes}
 use borrow.Author.Needs.{needs}
 use Rattle.header.proofs.data_size.Statement.{statement}
 use Rattle.header.proofs.data_size.Tie as tie
@@ -11,29 +9,29 @@ kbps-requires : tie.Need-kbps-requires
 kbps-requires c κs = search needs
 
 mul-frame : tie.Need-mul-frame
-mul-frame c = let z = sizes (c .before .args .bitrate) (c .before .args .samplerate) (omega arith) (omega arith) in omega (arith, c .kbps .ensures)
+mul-frame c = let z = frame-sizes (c .before .args .bitrate) (c .before .args .samplerate) (omega arith) (omega arith) in omega (arith, c .kbps .ensures)
 
 rate-requires : tie.Need-rate-requires
 rate-requires c κs = search needs
 
 div-frame : tie.Need-div-frame
 div-frame c =
-    let z = sizes (c .before .before .args .bitrate) (c .before .before .args .samplerate) (omega arith) (omega arith) in
+    let z = frame-sizes (c .before .before .args .bitrate) (c .before .before .args .samplerate) (omega arith) (omega arith) in
     omega (arith, c .rate .ensures)
 
 cast-frame : tie.Need-cast-frame
 cast-frame c =
-    let z = sizes (c .before .before .args .bitrate) (c .before .before .args .samplerate) (omega arith) (omega arith) in
+    let z = frame-sizes (c .before .before .args .bitrate) (c .before .before .args .samplerate) (omega arith) (omega arith) in
     rw (c .before .kbps .ensures, c .rate .ensures) (omega arith)
 
 add-frame : tie.Need-add-frame
 add-frame c =
-    let z = sizes (c .before .before .args .bitrate) (c .before .before .args .samplerate) (omega arith) (omega arith) in
+    let z = frame-sizes (c .before .before .args .bitrate) (c .before .before .args .samplerate) (omega arith) (omega arith) in
     rw (c .before .kbps .ensures, c .rate .ensures) (omega arith)
 
 sub-result : tie.Need-sub-result
 sub-result c =
-    let z = sizes (c .before .before .before .args .bitrate) (c .before .before .before .args .samplerate) (omega arith) (omega arith) in
+    let z = frame-sizes (c .before .before .before .args .bitrate) (c .before .before .before .args .samplerate) (omega arith) (omega arith) in
     rw (c .before .before .kbps .ensures, c .before .rate .ensures) (omega arith)
 
 returns : tie.Need-returns
@@ -42,7 +40,7 @@ returns c = rw (c .before .before .kbps .ensures, c .before .rate .ensures, c .i
 
 sub-result-2 : tie.Need-sub-result-2
 sub-result-2 c =
-    let z = sizes (c .before .before .before .args .bitrate) (c .before .before .before .args .samplerate) (omega arith) (omega arith) in
+    let z = frame-sizes (c .before .before .before .args .bitrate) (c .before .before .before .args .samplerate) (omega arith) (omega arith) in
     rw (c .before .before .kbps .ensures, c .before .rate .ensures) (omega arith)
 
 returns-2 : tie.Need-returns-2

@@ -1,4 +1,4 @@
-use mathlib.Core.Path.{_≡_, ap, sym, _∙_}
+use mathlib.Core.Path.{ap, sym, _∙_}
 use Rattle.header.specs.Header.{headerOf, byStart, attempt}
 use borrow.Author.Needs.{needs}
 use Rattle.header.proofs.decode_header.Statement.{statement}

@@ -1,4 +1,4 @@
-use mathlib.Core.Path.{_≡_, ap, sym, _∙_}
+use mathlib.Core.Path.{ap, sym, _∙_}
 use Rattle.header.specs.Header.{startOf, byHas, bySkip}
 use borrow.Author.Needs.{needs}
 use Rattle.header.proofs.find_start.Statement.{statement}
@@ -39,19 +39,19 @@ enum-known-zeros-2 c = search needs
 returns-3 : tie.Need-returns-3
 unfolding startOf
 returns-3 c =
+    let at-skip = c .before .before .before .before in
+    let at-has = at-skip .before .before .before in
     c .sync .ensures
-    ∙ ap (bySkip _ _) (sym (c .before .before .zeros .given .1)
-    ∙ c .before .before .before .before .skip-bytes .ensures)
-    ∙ ap (byHas _ _) (sym (c .before .before .before .before .before .enum-told2 .given .1)
-    ∙ c .before .before .before .before .before .before .before .has .ensures)
+    ∙ ap (bySkip _ _) (sym (c .before .before .zeros .given .1) ∙ at-skip .skip-bytes .ensures)
+    ∙ ap (byHas _ _) (sym (at-skip .before .enum-told2 .given .1) ∙ at-has .has .ensures)
 
 returns-4 : tie.Need-returns-4
 unfolding startOf
 returns-4 c =
-    ap (bySkip _ _) (sym (c .before .zeros2 .given .1)
-    ∙ c .before .before .before .skip-bytes .ensures)
-    ∙ ap (byHas _ _) (sym (c .before .before .before .before .enum-told2 .given .1)
-    ∙ c .before .before .before .before .before .before .has .ensures)
+    let at-skip = c .before .before .before in
+    let at-has = at-skip .before .before .before in
+    ap (bySkip _ _) (sym (c .before .zeros2 .given .1) ∙ at-skip .skip-bytes .ensures)
+    ∙ ap (byHas _ _) (sym (at-skip .before .enum-told2 .given .1) ∙ at-has .has .ensures)
 
 pub find-start-spec : {M : Type 1} → statement M
 find-start-spec =

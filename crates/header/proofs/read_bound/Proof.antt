@@ -1,5 +1,5 @@
-use mathlib.Core.Path.{_≡_, ap, sym, _∙_}
-use Rattle.grammar.specs.Run.{asked, andThen, run-done}
+use mathlib.Core.Path.{sym}
+use Rattle.grammar.specs.Run.{fieldThen, andThen, run-done}
 use Rattle.header.specs.Header.{boundOf}
 use borrow.Author.Needs.{needs}
 use Rattle.header.proofs.read_bound.Statement.{statement}
@@ -23,8 +23,8 @@ bound-by-requires c κs = search needs
 returns : tie.Need-returns
 unfolding boundOf
 returns c =
-    asked _ _ _ _ (c .before .before .before .before .field .ensures .is)
-    (asked _ _ _ _ (c .before .before .before .field2 .ensures .is)
+    fieldThen _ _ _ _ (c .before .before .before .before .field .ensures .is)
+    (fieldThen _ _ _ _ (c .before .before .before .field2 .ensures .is)
     (andThen _ _ _ _ (c .before .before .pass-check .ensures)
     (rw (c .bound-by .ensures) (sym (run-done _ _ _)))))
 

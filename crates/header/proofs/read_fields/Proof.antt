@@ -1,5 +1,5 @@
-use mathlib.Core.Path.{_≡_, ap, sym, _∙_}
-use Rattle.grammar.specs.Run.{asked, andThen, run-done}
+use mathlib.Core.Path.{ap, sym, _∙_}
+use Rattle.grammar.specs.Run.{andThen, run-done}
 use Rattle.grammar.specs.Reads.{ran}
 use Rattle.header.specs.Header.{fieldsOf}
 use borrow.Author.Needs.{needs}

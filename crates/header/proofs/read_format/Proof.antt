@@ -1,9 +1,9 @@
-use mathlib.Core.Path.{_≡_, ap, sym, _∙_}
-use Rattle.grammar.specs.Run.{asked, andThen, run-done}
+use mathlib.Core.Path.{ap, sym, _∙_}
+use Rattle.grammar.specs.Run.{andThen, run-done}
 use Rattle.grammar.specs.Reads.{ran}
 use Rattle.grammar.specs.Values.{learnt}
 use Rattle.header.specs.Header.{ratesOf}
-use Rattle.header.specs.Accepted.{Rated, rates-known}
+use Rattle.header.specs.Accepted.{KnownRates, rates-known}
 use borrow.Author.Needs.{needs}
 use Rattle.header.proofs.read_format.Statement.{statement}
 use Rattle.header.proofs.read_format.Tie as tie
@@ -16,7 +16,7 @@ enum-known-rates c = search needs
 
 read-rest-requires : tie.Need-read-rest-requires
 read-rest-requires c κs =
-    learnt Rated ratesOf _ _ (ap (λ x. ran x (c .before .before .before .before .read-rates .result .next)) (sym (c .before .rates .given .1))
+    learnt KnownRates ratesOf _ _ (ap (λ x. ran x (c .before .before .before .before .read-rates .result .next)) (sym (c .before .rates .given .1))
     ∙ c .before .before .before .before .read-rates .ensures) rates-known
 
 enum-known-rates-2 : tie.Need-enum-known-rates-2

@@ -1,6 +1,5 @@
-use mathlib.Core.Path.{_≡_, ap, sym, _∙_}
-use Rattle.grammar.specs.Run.{asked, andThen, run-done}
-use Rattle.grammar.specs.Reads.{run}
+use mathlib.Core.Path.{sym}
+use Rattle.grammar.specs.Run.{fieldThen, run-done}
 use Rattle.header.specs.Header.{identOf}
 use borrow.Author.Needs.{needs}
 use Rattle.header.proofs.read_ident.Statement.{statement}
@@ -18,17 +17,23 @@ field-requires-3 c κs = search needs
 returns : tie.Need-returns
 unfolding identOf
 returns c =
-    asked _ _ _ _ (c .before .before .before .before .before .before .before .field .ensures .is)
-    (asked _ _ _ _ (c .before .before .before .before .before .before .field2 .ensures .is)
-    (asked _ _ _ _ (c .before .before .before .before .before .field3 .ensures .is)
+    let at-protection = c .before .before .before .before .before in
+    let at-layer = at-protection .before in
+    let at-version = at-layer .before in
+    fieldThen _ _ _ _ (at-version .field .ensures .is)
+    (fieldThen _ _ _ _ (at-layer .field2 .ensures .is)
+    (fieldThen _ _ _ _ (at-protection .field3 .ensures .is)
     (rw (c .before .if1 .taken) (sym (run-done _ _ _)))))
 
 returns-2 : tie.Need-returns-2
 unfolding identOf
 returns-2 c =
-    asked _ _ _ _ (c .before .before .before .before .before .before .field .ensures .is)
-    (asked _ _ _ _ (c .before .before .before .before .before .field2 .ensures .is)
-    (asked _ _ _ _ (c .before .before .before .before .field3 .ensures .is)
+    let at-protection = c .before .before .before .before in
+    let at-layer = at-protection .before in
+    let at-version = at-layer .before in
+    fieldThen _ _ _ _ (at-version .field .ensures .is)
+    (fieldThen _ _ _ _ (at-layer .field2 .ensures .is)
+    (fieldThen _ _ _ _ (at-protection .field3 .ensures .is)
     (rw (c .if1 .left) (sym (run-done _ _ _)))))
 
 pub read-ident-spec : {M : Type 1} → statement M

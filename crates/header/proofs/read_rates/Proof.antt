@@ -1,11 +1,9 @@
 use lib.Dec.{eqb}
 use native.Mathlib.Omega.{arith}
-use borrow.Author.Tests.{eqb-false}
 use Rattle.ground.specs.Tests.{neither}
-use mathlib.Core.Path.{_≡_, ap, sym, _∙_}
-use Rattle.grammar.specs.Run.{asked, andThen, run-done}
-use borrow.Author.Tests.{eq-eqb, ne-eqb}
-use Rattle.grammar.specs.Reads.{run}
+use mathlib.Core.Path.{sym}
+use Rattle.grammar.specs.Run.{fieldThen, run-done}
+use borrow.Author.Tests.{eqb-false, eq-eqb, ne-eqb}
 use Rattle.header.specs.Header.{ratesOf}
 use borrow.Author.Needs.{needs}
 use Rattle.header.proofs.read_rates.Statement.{statement}
@@ -16,7 +14,7 @@ field-requires c κs = search needs
 
 returns : tie.Need-returns
 unfolding ratesOf
-returns c = asked _ _ _ _ (c .before .before .before .before .field .ensures .is) (rw (c .if1 .taken) (sym (run-done _ _ _)))
+returns c = fieldThen _ _ _ _ (c .before .before .before .before .field .ensures .is) (rw (c .if1 .taken) (sym (run-done _ _ _)))
 
 field-requires-2 : tie.Need-field-requires-2
 field-requires-2 c κs = search needs
@@ -24,9 +22,12 @@ field-requires-2 c κs = search needs
 returns-2 : tie.Need-returns-2
 unfolding ratesOf
 returns-2 c =
-    asked _ _ _ _ (c .before .before .before .before .before .before .before .before .field .ensures .is)
-    (rw (c .before .before .before .before .if1 .left)
-    (asked _ _ _ _ (c .before .before .before .field2 .ensures .is)
+    let at-samplerate = c .before .before .before in
+    let at-bitrate-test = at-samplerate .before in
+    let at-bitrate = at-bitrate-test .before .before .before .before in
+    fieldThen _ _ _ _ (at-bitrate .field .ensures .is)
+    (rw (at-bitrate-test .if1 .left)
+    (fieldThen _ _ _ _ (at-samplerate .field2 .ensures .is)
     (rw (eq-eqb _ _ (c .if2 .taken)) (sym (run-done _ _ _)))))
 
 field-requires-3 : tie.Need-field-requires-3
@@ -34,8 +35,10 @@ field-requires-3 c κs = search needs
 
 sub-t14 : tie.Need-sub-t14
 sub-t14 c =
-    let b = c .before .before .before .before .before .before .before .before .before .before .before .field .result .value in
-    let n = eqb-false b 0 (neither (eqb b 0) (eqb b 15) (c .before .before .before .before .before .before .before .if1 .left) .0) in
+    let at-samplerate-test = c .before .before .before in
+    let at-bitrate-test = at-samplerate-test .before .before .before .before in
+    let b = at-bitrate-test .before .before .before .before .field .result .value in
+    let n = eqb-false b 0 (neither (eqb b 0) (eqb b 15) (at-bitrate-test .if1 .left) .0) in
     omega arith
 
 cast-t15 : tie.Need-cast-t15
@@ -50,11 +53,16 @@ cast-t17 c = search needs
 returns-3 : tie.Need-returns-3
 unfolding ratesOf
 returns-3 c =
-    asked _ _ _ _ (c .before .before .before .before .before .before .before .before .before .before .before .before .before .field .ensures .is)
-    (rw (c .before .before .before .before .before .before .before .before .before .if1 .left)
-    (asked _ _ _ _ (c .before .before .before .before .before .before .before .before .field2 .ensures .is)
-    (rw (ne-eqb _ _ (c .before .before .before .before .before .if2 .left))
-    (asked _ _ _ _ (c .before .before .before .before .field3 .ensures .is) (sym (run-done _ _ _))))))
+    let at-padding = c .before .before .before .before in
+    let at-samplerate-test = at-padding .before in
+    let at-samplerate = at-samplerate-test .before .before .before in
+    let at-bitrate-test = at-samplerate .before in
+    let at-bitrate = at-bitrate-test .before .before .before .before in
+    fieldThen _ _ _ _ (at-bitrate .field .ensures .is)
+    (rw (at-bitrate-test .if1 .left)
+    (fieldThen _ _ _ _ (at-samplerate .field2 .ensures .is)
+    (rw (ne-eqb _ _ (at-samplerate-test .if2 .left))
+    (fieldThen _ _ _ _ (at-padding .field3 .ensures .is) (sym (run-done _ _ _))))))
 
 pub read-rates-spec : {M : Type 1} → statement M
 read-rates-spec =

@@ -1,5 +1,5 @@
-use mathlib.Core.Path.{_≡_, ap, sym, _∙_}
-use Rattle.grammar.specs.Run.{asked, andThen, run-done}
+use mathlib.Core.Path.{sym, _∙_}
+use Rattle.grammar.specs.Run.{andThen, run-done}
 use Rattle.header.specs.Header.{restOf}
 use borrow.Author.Needs.{needs}
 use Rattle.header.proofs.read_rest.Statement.{statement}
@@ -27,10 +27,13 @@ data-size-requires c κs = search needs
 returns-2 : tie.Need-returns-2
 unfolding restOf
 returns-2 c =
-    andThen _ _ _ _ (c .before .before .before .before .before .before .read-mode .ensures)
-    (rw (sym (c .before .before .before .before .other-format .ensures)
-    ∙ c .before .before .before .if1 .left)
-    (andThen _ _ _ _ (c .before .before .read-bound .ensures)
+    let at-bound = c .before .before in
+    let at-test = at-bound .before in
+    let at-mode = at-test .before .before .before in
+    andThen _ _ _ _ (at-mode .read-mode .ensures)
+    (rw (sym (at-test .before .other-format .ensures)
+    ∙ at-test .if1 .left)
+    (andThen _ _ _ _ (at-bound .read-bound .ensures)
     (rw (c .data-size .ensures) (sym (run-done _ _ _)))))
 
 pub read-rest-spec : {M : Type 1} → statement M

@@ -1,5 +1,4 @@
-use mathlib.Core.Path.{_≡_, ap, sym, _∙_}
-use Rattle.header.specs.Header.{syncOf, seekOf}
+use Rattle.header.specs.Header.{syncOf}
 use borrow.Author.Tests.{eq-eqb, ne-eqb}
 use borrow.Author.Needs.{needs}
 use Rattle.header.proofs.sync.Statement.{statement}

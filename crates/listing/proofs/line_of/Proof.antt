@@ -1,6 +1,5 @@
 use mathlib.Core.Path.{ap, sym, _∙_}
-use Rattle.listing.specs.Lines.{lineBy}
-use Rattle.listing.specs.declared.Line.the-variants.{End, Refused, Frame}
+use Rattle.listing.specs.declared.Line.the-variants.{End, Refused}
 use borrow.Author.Needs.{needs}
 use Rattle.listing.proofs.line_of.Statement.{statement}
 use Rattle.listing.proofs.line_of.Tie as tie
@@ -23,28 +22,30 @@ kbps-requires c κs = search needs
 enum-known-answer-2 : tie.Need-enum-known-answer-2
 enum-known-answer-2 c = search needs
 
+ends-requires : tie.Need-ends-requires
+ends-requires c κs = search needs
+
 returns : tie.Need-returns
 returns c =
-    rw (
-      c .before .before .answer2 .given .1,
-      c .if1 .taken,
-    ) (ap (End (c .before .before .answer2 .given .0 .0)) (c .before .before .before .before .byte-of .ensures))
+    let refusal = c .before .before .before in
+    let told = refusal .answer2 .given in
+    rw (told .1, sym (c .before .ends .ensures) ∙ c .if1 .taken) (ap (End (told .0 .0)) (refusal .before .before .byte-of .ensures))
 
 returns-2 : tie.Need-returns-2
 returns-2 c =
-    rw (c .before .before .before .before .answer .given .1) (cc (
+    let frame = c .before .before .before .before in
+    rw (frame .answer .given .1) (cc (
       c .kbps .ensures,
       c .before .rate .ensures,
       c .before .before .byte-before .ensures,
-      c .before .before .before .before .before .before .byte-of .ensures,
+      frame .before .before .byte-of .ensures,
     ))
 
 returns-3 : tie.Need-returns-3
 returns-3 c =
-    rw (
-      c .before .before .answer2 .given .1,
-      c .if1 .left,
-    ) (ap (Refused (c .before .before .answer2 .given .0 .0)) (c .before .before .before .before .byte-of .ensures))
+    let refusal = c .before .before .before in
+    let told = refusal .answer2 .given in
+    rw (told .1, sym (c .before .ends .ensures) ∙ c .if1 .left) (ap (Refused (told .0 .0)) (refusal .before .before .byte-of .ensures))
 
 pub line-of-spec : {M : Type 1} → statement M
 line-of-spec =
@@ -56,6 +57,7 @@ line-of-spec =
     rate-requires
     kbps-requires
     enum-known-answer-2
+    ends-requires
     returns
     returns-2
     returns-3)

@@ -1,6 +1,6 @@
 use Rattle.listing.specs.declared.Listed.{Listed}
 use mathlib.Core.Path.{ap, _∙_}
-use Rattle.listing.specs.Lines.{nextOf, listed}
+use Rattle.listing.specs.Lines.{nextOf, withLine}
 use borrow.Author.Needs.{needs}
 use Rattle.listing.proofs.next_line.Statement.{statement}
 use Rattle.listing.proofs.next_line.Tie as tie
@@ -20,10 +20,14 @@ same-length-2 c = search needs
 returns : tie.Need-returns
 unfolding nextOf
 returns c =
-    let e = c .before .before .before .before .before .before .decode .ensures in (
-      ap {B = Listed} (λ l. record { line = l; state = c .before .before .before .before .before .before .decode .result .state }) (c .line-of .ensures)
-          ∙ ap (listed (c .before .before .before .before .before .before .before .before .before .before .before .before .args .a .frames)) (e .0),
-      e .1,
+    let lent-back = c .before .before .before in
+    let called = lent-back .before .before .before in
+    let lending = called .before .before .before in
+    let entry = lending .before .before .before in
+    let d = called .decode in (
+      ap {B = Listed} (λ l. record { line = l; state = d .result .state }) (c .line-of .ensures)
+          ∙ ap (withLine (entry .args .a .frames)) (d .ensures .0),
+      d .ensures .1,
     )
 
 pub next-line-spec : {M : Type 1} → statement M

@@ -1,14 +1,18 @@
 use borrow.Author.Needs.{needs}
 use mathlib.Core.Path.{_≡_}
 use lib.ListN.{length}
+use Rattle.synthesis.specs.Slots.{memoryLength, outputLength}
 use Rattle.report.proofs.list.Statement.{statement}
 use Rattle.report.proofs.list.Tie as tie
 
 abbrev Inv-loop : tie.InvT-loop
-Inv-loop stream marked memory₀ output₀ state₀ calls₀ memory output state calls = (length memory ≡ 2048) × (length output ≡ 2304)
+Inv-loop stream marked memory₀ output₀ state₀ calls₀ memory output state calls = (length memory ≡ memoryLength) × (length output ≡ outputLength)
 
 abbrev μ-loop : tie.MeasureT-loop
 μ-loop stream marked memory₀ output₀ state₀ calls₀ memory output state calls = calls
+
+plain-requires : tie.Need-plain-requires Inv-loop μ-loop
+plain-requires c κs = search needs
 
 slice-aggregate-new : tie.Need-slice-aggregate-new Inv-loop μ-loop
 slice-aggregate-new c = search needs
@@ -61,6 +65,7 @@ list-spec =
     (tie.spec
     Inv-loop
     μ-loop
+    plain-requires
     slice-aggregate-new
     new-requires
     print-opening-requires

@@ -1,5 +1,5 @@
 use borrow.Author.Needs.{needs}
-use Rattle.clock.proofs.Real.{left-real}
+use Rattle.ground.specs.Floats.{real-of-same}
 use Rattle.report.proofs.time_bits.Statement.{statement}
 use Rattle.report.proofs.time_bits.Tie as tie
 
@@ -7,7 +7,7 @@ returns : tie.Need-returns
 returns c = search needs
 
 float-to-bits-result : tie.Need-float-to-bits-result
-float-to-bits-result c = left-real (c .before .args .time) (c .if1 .left)
+float-to-bits-result c = real-of-same (c .before .args .time) (c .if1 .left)
 
 returns-2 : tie.Need-returns-2
 returns-2 c = search needs

@@ -2,7 +2,7 @@
 use mathlib.Core.Path.{_≡_, ap, sym, _∙_}
 use borrow.Author.Needs.{needs}
 use lib.ListN.{length}
-use Rattle.riff.specs.Header.{headerOf, length-header}
+use Rattle.riff.specs.Header.{waveHeaderOf, length-header}
 use Rattle.riff.proofs.header.Statement.{statement}
 use Rattle.riff.proofs.header.Tie as tie
 
@@ -27,9 +27,11 @@ put-requires-3 c κs = search needs
 put-requires-4 : tie.Need-put-requires-4
 put-requires-4 c κs = search needs
 
-filled : (c : tie.After-put4) → let a = c .before .before .before .before .before .before .before .before .args in
-    c .put4 .last .0 ≡ headerOf (a .frames) (a .rate)
-unfolding headerOf
+filled : (c : tie.After-put4) →
+    let second = c .before .before .before .before in
+    let a = second .before .before .before .before .args in
+    c .put4 .last .0 ≡ waveHeaderOf (a .frames) (a .rate)
+unfolding waveHeaderOf
 filled c =
     let third = c .before .before in
     let second = third .before .before in

@@ -6,9 +6,10 @@ use native.Mathlib.Omega.{arith}
 use borrow.Author.Needs.{needs}
 use lib.Dec.{lit≤}
 use lib.Ieee.{binary32, toBits}
+use Rattle.ground.specs.Floats.{real-of-same}
 use Rattle.riff.specs.Level.{levelOf, bits16}
 use Rattle.riff.proofs.Rounding.{stepsAt}
-use Rattle.riff.proofs.Pattern.{nan-level, real, away, upward, downward}
+use Rattle.riff.proofs.Pattern.{nan-level, away, upward, downward}
 use Rattle.riff.proofs.word.Statement.{statement}
 use Rattle.riff.proofs.word.Tie as tie
 
@@ -16,7 +17,7 @@ returns : tie.Need-returns
 returns c = nan-level (c .before .args .x) (c .if1 .taken)
 
 float-to-bits-bits : tie.Need-float-to-bits-bits
-float-to-bits-bits c = real (c .before .args .x) (c .if1 .left)
+float-to-bits-bits c = real-of-same (c .before .args .x) (c .if1 .left)
 
 exponent-requires : tie.Need-exponent-requires
 exponent-requires c κs = search needs

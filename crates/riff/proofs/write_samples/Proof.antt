@@ -5,7 +5,7 @@ use borrow.Author.Needs.{needs}
 use native.Mathlib.Omega.{arith}
 use lib.ListN.{length, getD, set, length-set}
 use mathlib.Core.List.{List}
-use lib.Ieee.{nan}
+use lib.Ieee.{Float, nan}
 use lib.Seq.{ext-getD}
 use Rattle.ground.specs.Table.{table-more}
 use Rattle.riff.specs.Level.{pcmOf, sixteen, length-pcm, low-byte, high-byte}
@@ -31,11 +31,17 @@ shared-slice-read-word c = search needs
 word-requires : tie.Need-word-requires Inv-loop μ-loop
 word-requires c κs = search needs
 
--- what `word` gives is 16 bits
-two-bytes : (c : tie.After-word Inv-loop μ-loop) → c .word .result < 65536
-two-bytes c =
-    let values = c .before .before .before .before .before .before .args .values .now in
-    rw (c .word .ensures) (sixteen (getD values (c .before .before .before .loop .i) nan))
+module _ (c : tie.After-word Inv-loop μ-loop) where
+  -- the loop's head, and the samples
+  abbrev at-loop : tie.At-loop Inv-loop μ-loop
+  at-loop = c .before .before .before
+
+  abbrev values : List Float
+  values = at-loop .before .before .before .args .values .now
+
+  -- what `word` gives is 16 bits
+  two-bytes : c .word .result < 65536
+  two-bytes = rw (c .word .ensures) (sixteen (getD values (at-loop .loop .i) nan))
 
 cast-bytes : tie.Need-cast-bytes Inv-loop μ-loop
 cast-bytes c = omega (arith, two-bytes c)
@@ -73,12 +79,11 @@ pair-more f xs i l r k h =
 
 loop-again : tie.Need-loop-again Inv-loop μ-loop
 loop-again c =
-    let values = c .before .before .before .before .before .before .args .values .now in
-    let l = c .before .before .before .loop in
-    let f : ℕ → ℕ = λ k. getD (pcmOf values) k 0 in
-    let low : c .word .result % 256 ≡ f (2 * l .i) = ap (λ n. n % 256) (c .word .ensures) ∙ sym (low-byte values (l .i) (omega arith)) in
+    let l = at-loop c .loop in
+    let f : ℕ → ℕ = λ k. getD (pcmOf (values c)) k 0 in
+    let low : c .word .result % 256 ≡ f (2 * l .i) = ap (λ n. n % 256) (c .word .ensures) ∙ sym (low-byte (values c) (l .i) (omega arith)) in
     let high : c .word .result / 256 ≡ f (2 * l .i + 1) =
-    ap (λ n. n / 256) (c .word .ensures) ∙ sym (high-byte values (l .i) (omega arith)) in
+    ap (λ n. n / 256) (c .word .ensures) ∙ sym (high-byte (values c) (l .i) (omega arith)) in
     (search needs, simp length-set (search needs), rw (low, high) (pair-more f (l .bytes) (l .i) (omega arith) (l .inv .2)))
 
 same-length : tie.Need-same-length Inv-loop μ-loop

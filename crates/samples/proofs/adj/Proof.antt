@@ -1,7 +1,7 @@
 -- `samples::adj` meets its contract: there are 3 to 65,535 levels.
 use Prim.Native.Nat.{_≤_}
 use native.Mathlib.Omega.{arith}
-use Rattle.tables.specs.Laws.{Sizes, sized}
+use Rattle.tables.specs.Laws.{QuantiserSizes, sized}
 use Rattle.samples.specs.Sample.{adjOf}
 use borrow.Author.Needs.{needs}
 use Rattle.samples.proofs.adj.Statement.{statement}
@@ -11,7 +11,7 @@ module _ (c : tie.After-levels) where
   abbrev start : tie.Start
   start = c .before
 
-  sizes : Sizes (start .args .q)
+  sizes : QuantiserSizes (start .args .q)
   sizes = sized (start .args .q) (start .pre .0) (start .pre .1)
 
   least : 3 ≤ c .levels .result

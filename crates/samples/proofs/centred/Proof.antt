@@ -7,7 +7,7 @@ use lib.Dec.{lit<}
 use lib.IntN.{ℤ, pos, natAbs, _-ℤ_, _*ℤ_}
 use mir.Syntax.{w32}
 use mir.Val.{toZ}
-use Rattle.ground.specs.Magnitude.{abs-sub, fits32, back, plain}
+use Rattle.ground.specs.Magnitude.{abs-sub, fits32, read-back, read-as-itself}
 use Rattle.samples.proofs.centred.Statement.{statement}
 use Rattle.samples.proofs.centred.Tie as tie
 
@@ -16,13 +16,13 @@ module _ (c : tie.Start) where
   off = pos (c .args .adj) -ℤ pos (c .args .code)
 
   e1 : toZ w32 (c .args .adj) ≡ pos (c .args .adj)
-  e1 = plain (c .args .adj) (c .pre .0) tt
+  e1 = read-as-itself (c .args .adj) (c .pre .0) tt
 
   e2 : toZ w32 (c .args .code) ≡ pos (c .args .code)
-  e2 = plain (c .args .code) (c .pre .2) tt
+  e2 = read-as-itself (c .args .code) (c .pre .2) tt
 
   e3 : toZ w32 (c .args .scale) ≡ pos (c .args .scale)
-  e3 = plain (c .args .scale) (c .pre .1) tt
+  e3 = read-as-itself (c .args .scale) (c .pre .1) tt
 
   near : natAbs off ≤ 65535
   near = abs-sub (c .args .adj) (c .args .code) 65535 (omega arith) (omega arith)
@@ -41,11 +41,11 @@ cast-result-3 c = search needs
 
 mul-result : tie.Need-mul-result
 mul-result c =
-    simp (e1 c, e2 c, e3 c, back (off c) (near c) tt) (fits32 (off c *ℤ pos (c .args .scale)) (c .pre .3) (lit< tt))
+    simp (e1 c, e2 c, e3 c, read-back (off c) (near c) tt) (fits32 (off c *ℤ pos (c .args .scale)) (c .pre .3) (lit< tt))
 
 returns : tie.Need-returns
 returns c =
-    simp (e1 c, e2 c, e3 c, back (off c) (near c) tt, back (off c *ℤ pos (c .args .scale)) (c .pre .3) tt) refl
+    simp (e1 c, e2 c, e3 c, read-back (off c) (near c) tt, read-back (off c *ℤ pos (c .args .scale)) (c .pre .3) tt) refl
 
 pub centred-spec : {M : Type 1} → statement M
 centred-spec =

@@ -6,7 +6,7 @@ use native.Mathlib.Omega.{arith}
 use lib.IntN.{natAbs}
 use mir.Syntax.{w32}
 use mir.Val.{toZ, ofZ}
-use Rattle.ground.specs.Magnitude.{back}
+use Rattle.ground.specs.Magnitude.{read-back}
 use Rattle.samples.specs.Sample.{scaledBy}
 use Rattle.samples.specs.Bounds.{scaled-small}
 use Rattle.samples.proofs.sample.Statement.{statement}
@@ -20,7 +20,7 @@ module _ (c : tie.After-centred) where
   near = rw (c .centred .ensures) (c .before .pre .3)
 
   kept : toZ w32 (ofZ w32 (c .centred .result)) ≡ c .centred .result
-  kept = back (c .centred .result) near tt
+  kept = read-back (c .centred .result) near tt
 
 scaled-requires : tie.Need-scaled-requires
 scaled-requires c κs = simp (kept c) (near c, omega arith, omega arith)
@@ -31,7 +31,7 @@ returns c =
     let factor = b .before .args .factor in
     let is = c .scaled .ensures ∙ ap (λ z. scaledBy z (factor / 4096) (factor % 4096)) (kept b ∙ b .centred .ensures) in
     let small : natAbs (c .scaled .result) ≤ 104848 = rw is (scaled-small _ factor (b .before .pre .3) (b .before .pre .4)) in
-    simp (back (c .scaled .result) small tt) (is, small)
+    simp (read-back (c .scaled .result) small tt) (is, small)
 
 pub sample-spec : {M : Type 1} → statement M
 sample-spec = tie.close (tie.spec centred-requires scaled-requires returns)

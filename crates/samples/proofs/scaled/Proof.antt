@@ -1,4 +1,4 @@
--- `samples::scaled` meets its contract: no step leaves the `i32`, so each is the step on integers. `back` says that an
+-- `samples::scaled` meets its contract: no step leaves the `i32`, so each is the step on integers. `read-back` says that an
 -- integer of small magnitude is read back from its bits.
 use borrow.Author.Needs.{needs}
 use Prim.Native.Nat.{_≤_}
@@ -8,7 +8,7 @@ use lib.IntN.{ℤ, pos, natAbs, _+ℤ_, _*ℤ_}
 use lib.Signed.{shrZ}
 use mir.Syntax.{w32}
 use mir.Val.{toZ, ofZ}
-use Rattle.ground.specs.Magnitude.{bound-mul, bound-add, fits32, back, plain}
+use Rattle.ground.specs.Magnitude.{bound-mul, bound-add, fits32, read-back, read-as-itself}
 use Rattle.samples.specs.Sample.{scaledBy}
 use Rattle.samples.proofs.Shift.{floor-is, bound-shift}
 use Rattle.samples.proofs.scaled.Statement.{statement}
@@ -29,13 +29,13 @@ module _ (c : tie.Start) where
   shifted = shrZ (times-low +ℤ pos 2048) 4096
 
   e0 : toZ w32 (ofZ w32 v) ≡ v
-  e0 = back v (c .pre .0) tt
+  e0 = read-back v (c .pre .0) tt
 
   e1 : toZ w32 (c .args .high) ≡ pos (c .args .high)
-  e1 = plain (c .args .high) (c .pre .1) tt
+  e1 = read-as-itself (c .args .high) (c .pre .1) tt
 
   e2 : toZ w32 (c .args .low) ≡ pos (c .args .low)
-  e2 = plain (c .args .low) (c .pre .2) tt
+  e2 = read-as-itself (c .args .low) (c .pre .2) tt
 
   b1 : natAbs times-high ≤ 429457408
   b1 = bound-mul v (pos (c .args .high)) 52424 8192 (c .pre .0) (c .pre .1)
@@ -55,6 +55,28 @@ module _ (c : tie.Start) where
   b6 : natAbs (shrZ (times-high +ℤ shifted) 4096) ≤ 104861
   b6 = bound-shift (times-high +ℤ shifted) 429509820 b5
 
+  -- and each of these steps is read back from its bits
+  abbrev Kept : ℤ → Type 0
+  Kept z = toZ w32 (ofZ w32 z) ≡ z
+
+  k1 : Kept times-high
+  k1 = read-back times-high b1 tt
+
+  k2 : Kept times-low
+  k2 = read-back times-low b2 tt
+
+  k3 : Kept (times-low +ℤ pos 2048)
+  k3 = read-back (times-low +ℤ pos 2048) b3 tt
+
+  k4 : Kept shifted
+  k4 = read-back shifted b4 tt
+
+  k5 : Kept (times-high +ℤ shifted)
+  k5 = read-back (times-high +ℤ shifted) b5 tt
+
+  k6 : Kept (shrZ (times-high +ℤ shifted) 4096)
+  k6 = read-back (shrZ (times-high +ℤ shifted) 4096) b6 tt
+
 cast-result : tie.Need-cast-result
 cast-result c = search needs
 
@@ -68,20 +90,16 @@ mul-result-2 : tie.Need-mul-result-2
 mul-result-2 c = simp (e0 c, e2 c) (fits32 (times-low c) (b2 c) (lit< tt))
 
 add-result : tie.Need-add-result
-add-result c = simp (e0 c, e2 c, back (times-low c) (b2 c) tt) (fits32 (times-low c +ℤ pos 2048) (b3 c) (lit< tt))
+add-result c = simp (e0 c, e2 c, k2 c) (fits32 (times-low c +ℤ pos 2048) (b3 c) (lit< tt))
 
 add-result-2 : tie.Need-add-result-2
 add-result-2 c =
-    simp
-    (e0 c, e1 c, e2 c, back (times-high c) (b1 c) tt, back (times-low c) (b2 c) tt, back (times-low c +ℤ pos 2048) (b3 c) tt, back (shifted c) (b4 c) tt)
-    (fits32 (times-high c +ℤ shifted c) (b5 c) (lit< tt))
+    simp (e0 c, e1 c, e2 c, k1 c, k2 c, k3 c, k4 c) (fits32 (times-high c +ℤ shifted c) (b5 c) (lit< tt))
 
 returns : tie.Need-returns
 unfolding scaledBy
 returns c =
-    simp
-    (e0 c, e1 c, e2 c, back (times-high c) (b1 c) tt, back (times-low c) (b2 c) tt, back (times-low c +ℤ pos 2048) (b3 c) tt, back (shifted c) (b4 c) tt, back (times-high c +ℤ shifted c) (b5 c) tt, back (shrZ (times-high c +ℤ shifted c) 4096) (b6 c) tt)
-    (simp floor-is refl)
+    simp (e0 c, e1 c, e2 c, k1 c, k2 c, k3 c, k4 c, k5 c, k6 c) (simp floor-is refl)
 
 pub scaled-spec : {M : Type 1} → statement M
 scaled-spec =

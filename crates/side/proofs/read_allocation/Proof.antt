@@ -2,7 +2,11 @@
 use Prim.Native.Nat.{_<_, _^_}
 use native.Mathlib.Nat.{lt-of-lt-of-le}
 use lib.Pow.{pow-mono}
-use Rattle.grammar.specs.Reads.{run}
+use mathlib.Core.Path.{ap, sym, _∙_}
+use lib.ListN.{set}
+use Rattle.buffer.specs.Calls.{fieldOf}
+use Rattle.grammar.specs.Reads.{ran}
+use Rattle.grammar.specs.Run.{fieldThen, run-done}
 use Rattle.tables.specs.Source.{widthOf}
 use Rattle.tables.specs.Laws.{width≤4}
 use Rattle.side.specs.Side.{allocationOf}
@@ -31,8 +35,13 @@ element-write-quant : tie.Need-element-write-quant
 element-write-quant c = search needs
 
 returns : tie.Need-returns
-unfolding allocationOf run
-returns c = cc (c .quantiser .ensures, c .before .before .before .field .ensures .is, c .before .before .before .before .allocation-bits .ensures)
+unfolding allocationOf
+returns c =
+    let at-field = c .before .before .before in
+    let at-bits = at-field .before in
+    let a = at-bits .before .before .args in
+    fieldThen _ _ _ _ (at-field .field .ensures .is ∙ ap (fieldOf (a .s .now) (a .reader)) (at-bits .allocation-bits .ensures))
+    (ap (λ q. ran (set (a .quant .now) (a .place) q) (at-field .field .result .next)) (c .quantiser .ensures) ∙ sym (run-done _ _ _))
 
 pub read-allocation-spec : {M : Type 1} → statement M
 read-allocation-spec =

@@ -1,6 +1,6 @@
 -- `side::read_selector` meets its contract.
 use borrow.Author.Tests.{eq-eqb, ne-eqb}
-use Rattle.grammar.specs.Run.{run-done, asked}
+use Rattle.grammar.specs.Run.{run-done, fieldThen}
 use Rattle.side.specs.Side.{selectorOf}
 use borrow.Author.Needs.{needs}
 use Rattle.side.proofs.read_selector.Statement.{statement}
@@ -23,7 +23,7 @@ element-write-selector c = search needs
 
 returns-2 : tie.Need-returns-2
 unfolding selectorOf
-returns-2 c = simp (ne-eqb _ _ (c .before .before .before .if1 .left)) (asked _ _ _ _ (c .before .before .field .ensures .is) (simp run-done))
+returns-2 c = simp (ne-eqb _ _ (c .before .before .before .if1 .left)) (fieldThen _ _ _ _ (c .before .before .field .ensures .is) (simp run-done))
 
 pub read-selector-spec : {M : Type 1} → statement M
 read-selector-spec =

@@ -32,7 +32,11 @@ same-length-2 : tie.Need-same-length-2
 same-length-2 c = search needs
 
 returns : tie.Need-returns
-returns c = let a = c .before .before .before .before .before .before .before .before .before .before .before .args in channel (a .ring .now) (a .p) (a .samples .now) _ (a .output .now) _ (a .at) (c .before .before .before .before .before .before .before .idct36 .ensures) (c .before .before .window-slot .ensures)
+returns c =
+    let at-window = c .before .before in
+    let at-idct = at-window .before .before .before .before .before in
+    let a = at-idct .before .before .before .before .args in
+    channel (a .ring .now) (a .p) (a .samples .now) _ (a .output .now) _ (a .at) (at-idct .idct36 .ensures) (at-window .window-slot .ensures)
 
 pub channel-slot-spec : {M : Type 1} → statement M
 channel-slot-spec =

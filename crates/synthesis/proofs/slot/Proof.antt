@@ -4,7 +4,7 @@ use Prim.Native.Nat.{_+_, _*_, _≤_}
 use native.Mathlib.Omega.{arith}
 use lib.ListN.{length}
 use lib.Seq.{length-take-le}
-use Rattle.synthesis.specs.Slots.{leftOf, samplesOf}
+use Rattle.synthesis.specs.Slots.{memoryLength, ringOf, slotSamples}
 use Rattle.synthesis.proofs.Halves.{part, part-is, both}
 use borrow.Author.Needs.{needs}
 use Rattle.synthesis.proofs.slot.Statement.{statement}
@@ -72,7 +72,10 @@ add-channel-slot c = search needs
 
 channel-slot-requires-2 : tie.Need-channel-slot-requires-2
 channel-slot-requires-2 c κs =
-    let s = c .before .before .before .before .before .before .before .before .before .before .before .before .before in
+    let at-output = c .before .before .before .before in
+    let at-left = at-output .before .before .before in
+    let at-lent = at-left .before .before .before in
+    let s = at-lent .before .before .before in
     let t = part (s .args .sample .now) (64 * s .args .n + 32) (64 * s .args .n + 32 + 32) refl (omega arith) (s .pre .3) in
     (s .pre .0, search needs, t .0, t .1, s .pre .5, search needs)
 
@@ -83,15 +86,20 @@ same-length-2 : tie.Need-same-length-2
 same-length-2 c = search needs
 
 returns : tie.Need-returns
-unfolding leftOf
+unfolding ringOf
 returns c =
-    let s = c .before .before .before .before .before .before .before .before .before .before .before .before .before .before .before .before .before .before in
-    let l = c .before .before .before .before .before .before .before .before .before .before .before .before .channel-slot in
-    let r = c .before .before .before .before .channel-slot2 in
-    let big : 2048 ≤ length (s .args .memory .now) = s .pre .1 in
-    both (samplesOf (s .args .sample .now)) (s .args .memory .now) (s .args .p) (s .args .n) (s .args .output .now) (s .args .at) _ _ _ _ _ _
-    (part-is (s .args .sample .now) (64 * s .args .n) (64 * s .args .n + 32) refl 0 (s .args .n) (omega arith)) (part-is (s .args .sample .now) (64 * s .args .n + 32) (64 * s .args .n + 32 + 32) refl 1 (s .args .n) (omega arith))
-    (l .kept .0 ∙ length-take-le 1024 (s .args .memory .now) (omega arith)) (l .ensures) (r .ensures)
+    let at-right = c .before .before .before .before in
+    let at-output = at-right .before .before .before .before .before in
+    let at-left = at-output .before .before .before in
+    let at-lent = at-left .before .before .before in
+    let s = at-lent .before .before .before in
+    let a = s .args in
+    let left = 64 * a .n in
+    let right = left + 32 in
+    let big : memoryLength ≤ length (a .memory .now) = s .pre .1 in
+    both (slotSamples (a .sample .now)) (a .memory .now) (a .p) (a .n) (a .output .now) (a .at) _ _ _ _ _ _
+    (part-is (a .sample .now) left right refl 0 (a .n) (omega arith)) (part-is (a .sample .now) right (right + 32) refl 1 (a .n) (omega arith))
+    (at-left .channel-slot .kept .0 ∙ length-take-le 1024 (a .memory .now) (omega arith)) (at-left .channel-slot .ensures) (at-right .channel-slot2 .ensures)
 
 pub slot-spec : {M : Type 1} → statement M
 slot-spec =

@@ -1,12 +1,12 @@
 -- `synthesis::synthesize` meets its contract: position, memory and output are those after `n` slots. Assumes nothing.
 use borrow.Author.Needs.{needs}
 use mathlib.Core.Path.{_≡_, refl, sym, _∙_}
-use Prim.Native.Nat.{ℕ, _-_, _≤_}
+use Prim.Native.Nat.{_-_, _≤_}
 use native.Mathlib.Omega.{arith}
 use lib.ListN.{length}
 use Rattle.window.specs.Output.{Place}
-use Rattle.synthesis.specs.Slots.{positionAfter, samplesOf, memoryAfter, outputAfter, interleaved}
-use Rattle.synthesis.specs.Ring.{place-back}
+use Rattle.synthesis.specs.Slots.{positionAfter, slotSamples, memoryAfter, outputAfter, interleaved}
+use Rattle.synthesis.specs.Ring.{place-before}
 use Rattle.synthesis.specs.Memory.{memory-zero}
 use Rattle.synthesis.proofs.Halves.{slot-more}
 use Rattle.synthesis.proofs.synthesize.Statement.{statement}
@@ -15,7 +15,7 @@ use Rattle.synthesis.proofs.synthesize.Tie as tie
 abbrev Inv-loop : tie.InvT-loop
 Inv-loop memory₀ p sample window output₀ at position₀ n₀ memory output position n =
     (n ≤ 3) × Place position × (position ≡ positionAfter p n) × (length memory ≡ length memory₀) × (length output ≡ length output₀)
-    × (memory ≡ memoryAfter (samplesOf sample) p memory₀ n) × (output ≡ outputAfter (samplesOf sample) p memory₀ output₀ at n)
+    × (memory ≡ memoryAfter (slotSamples sample) p memory₀ n) × (output ≡ outputAfter (slotSamples sample) p memory₀ output₀ at n)
 
 abbrev μ-loop : tie.MeasureT-loop
 μ-loop memory₀ p sample window output₀ at position₀ n₀ memory output position n = 3 - n
@@ -35,9 +35,10 @@ add-slot c = omega arith
 
 slot-requires : tie.Need-slot-requires Inv-loop μ-loop
 slot-requires c κs =
-    let p = c .before .before .before .before .before .before .before .pre in
-    let l = c .before .before .before .before .loop in
-    (place-back (l .inv .1), omega arith, search needs, p .2, omega arith, p .3, omega arith)
+    let at-loop = c .before .before .before .before in
+    let p = at-loop .before .before .before .pre in
+    let l = at-loop .loop in
+    (place-before (l .inv .1), omega arith, search needs, p .2, omega arith, p .3, omega arith)
 
 add-n : tie.Need-add-n Inv-loop μ-loop
 add-n c = omega arith
@@ -47,11 +48,16 @@ loop-less c = omega arith
 
 loop-again : tie.Need-loop-again Inv-loop μ-loop
 loop-again c =
-    let s = c .before .before .before .before .before .before .before .before .before .before .before .before in
-    let l = c .before .before .before .before .before .before .before .before .before .loop in
-    let w = c .before .before .before .before .slot in
-    let t = slot-more (samplesOf (s .args .sample .now)) (s .pre .0) (s .args .memory .now) (s .pre .1) (l .n) (s .args .output .now) (s .args .at) (l .position) (l .memory) _ (l .output) _ (l .inv .2) (l .inv .5) (l .inv .6) (w .ensures) in
-    (omega arith, place-back (l .inv .1), t .0, w .kept .0 ∙ l .inv .3, omega arith, t .1, t .2)
+    let at-slot = c .before .before .before .before in
+    let at-loop = at-slot .before .before .before .before .before in
+    let s = at-loop .before .before .before in
+    let a = s .args in
+    let l = at-loop .loop in
+    let w = at-slot .slot in
+    let t =
+    slot-more (slotSamples (a .sample .now)) (s .pre .0) (a .memory .now) (s .pre .1) (l .n) (a .output .now) (a .at) (l .position) (l .memory) _
+    (l .output) _ (l .inv .2) (l .inv .5) (l .inv .6) (w .ensures) in
+    (omega arith, place-before (l .inv .1), t .0, w .kept .0 ∙ l .inv .3, omega arith, t .1, t .2)
 
 same-length : tie.Need-same-length Inv-loop μ-loop
 same-length c = c .before .loop .inv .3

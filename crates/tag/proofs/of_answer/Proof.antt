@@ -1,7 +1,7 @@
 use borrow.Author.Needs.{needs}
 use mathlib.Core.Path.{ap, sym}
 use lib.Ieee.{ofBits}
-use Rattle.tag.specs.Decoders.{playedOf}
+use Rattle.tag.specs.Boundary.{playedOf}
 use Rattle.tag.proofs.of_answer.Statement.{statement}
 use Rattle.tag.proofs.of_answer.Tie as tie
 

@@ -1,21 +1,22 @@
 use borrow.Author.Needs.{needs}
 use mathlib.Core.Path.{_∙_, ap}
+use Rattle.audio.specs.Calls.{openOf}
 use Rattle.audio.specs.Numbers.{headingNumber}
-use Rattle.tag.specs.Decoders.{placesOf, countsOf, timeOf}
+use Rattle.tag.specs.Boundary.{placesOf, countsOf, timeOf}
 use Rattle.tag.proofs.tag_open.Statement.{statement}
 use Rattle.tag.proofs.tag_open.Tie as tie
+
+reading-by-requires : tie.Need-reading-by-requires
+reading-by-requires c κs = search needs
 
 new-requires : tie.Need-new-requires
 new-requires c κs = search needs
 
-keep-places-requires : tie.Need-keep-places-requires
-keep-places-requires c κs = search needs
+places-of-requires : tie.Need-places-of-requires
+places-of-requires c κs = search needs
 
-keep-counts-requires : tie.Need-keep-counts-requires
-keep-counts-requires c κs = search needs
-
-element-write-time : tie.Need-element-write-time
-element-write-time c = search needs
+counts-of-requires : tie.Need-counts-of-requires
+counts-of-requires c κs = search needs
 
 heading-number-requires : tie.Need-heading-number-requires
 heading-number-requires c κs = search needs
@@ -25,29 +26,30 @@ same-length c = search needs
 
 returns : tie.Need-returns
 returns c =
-    let a = c .before .before .before .before .before .before .before .before .before .before .before .before .args in
-    let n = c .before .before .before .before .before .before .before .before .new .ensures in (
-      c .heading-number .ensures ∙ ap (λ x. headingNumber (x .answer)) (n .0),
-      (
-        n .1,
-        (
-          c .before .before .before .keep-places .ensures ∙ ap (λ x. placesOf (x .state) (a .places .now)) (n .0),
-          (
-            c .before .keep-counts .ensures ∙ ap (λ x. countsOf (x .state) (a .counts .now)) (n .0),
-            ap (λ x. timeOf (x .state) (a .time .now)) (n .0),
-          ),
-        ),
-      ),
+    let at-state = c .before .before .before .before in
+    let at-new = at-state .before .before .before in
+    let begun = at-new .before .before .before .before .before .args in
+    let opened = at-new .new .ensures .0 ∙ ap (λ r. openOf r (begun .stream .now) (begun .memory .now)) (at-new .before .reading-by .ensures) in (
+      record {
+        number-is = c .heading-number .ensures ∙ ap (λ x. headingNumber (x .answer)) opened;
+        state-is =
+            record {
+              places-hold = c .before .before .before .places-of .ensures ∙ ap (λ x. placesOf (x .state)) opened;
+              counts-hold = c .before .before .counts-of .ensures ∙ ap (λ x. countsOf (x .state)) opened;
+              time-holds = ap (λ x. timeOf (x .state)) opened;
+            };
+      },
+      at-new .new .ensures .1,
     )
 
 pub tag-open-spec : {M : Type 1} → statement M
 tag-open-spec =
     tie.close
     (tie.spec
+    reading-by-requires
     new-requires
-    keep-places-requires
-    keep-counts-requires
-    element-write-time
+    places-of-requires
+    counts-of-requires
     heading-number-requires
     same-length
     returns)

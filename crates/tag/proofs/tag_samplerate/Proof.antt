@@ -1,8 +1,8 @@
 use borrow.Author.Needs.{needs}
 use mathlib.Core.Path.{_∙_, ap}
-use lib.ListN.{set}
+use mathlib.Core.List.{[], _∷_}
 use Rattle.audio.specs.Calls.{samplerateOf}
-use Rattle.tag.specs.Decoders.{hertzOf}
+use Rattle.tag.specs.Boundary.{hertzOf}
 use Rattle.tag.proofs.tag_samplerate.Statement.{statement}
 use Rattle.tag.proofs.tag_samplerate.Tie as tie
 
@@ -15,15 +15,12 @@ samplerate-requires c κs = search needs
 of-rate-requires : tie.Need-of-rate-requires
 of-rate-requires c κs = search needs
 
-element-write-rate : tie.Need-element-write-rate
-element-write-rate c = search needs
-
 returns : tie.Need-returns
 returns c =
-    let e = c .of-rate .ensures ∙ ap hertzOf (c .before .samplerate .ensures ∙ ap samplerateOf (c .before .before .restore .ensures)) in
-    (ap (λ h. h .number) e, ap (λ h. set (c .before .before .before .args .rate .now) 0 (h .rate)) e)
+    let at-rate = c .before .before in
+    let told = c .before .of-rate .ensures ∙ ap hertzOf (at-rate .samplerate .ensures ∙ ap samplerateOf (at-rate .before .restore .ensures)) in
+    record { number-is = ap (λ h. h .number) told; rate-is = ap (λ h. h .rate ∷ []) told }
 
 pub tag-samplerate-spec : {M : Type 1} → statement M
 tag-samplerate-spec =
-    tie.close
-    (tie.spec restore-requires samplerate-requires of-rate-requires element-write-rate returns)
+    tie.close (tie.spec restore-requires samplerate-requires of-rate-requires returns)

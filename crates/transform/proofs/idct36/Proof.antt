@@ -27,7 +27,10 @@ same-length c = search needs
 
 returns : tie.Need-returns
 unfolding idct
-returns c = cc (c .before .before .store .ensures, c .before .before .before .before .before .before .pass32 .ensures, c .before .before .before .before .before .before .before .before .before .load .ensures)
+returns c =
+    let at-store = c .before .before in
+    let at-pass = at-store .before .before .before .before in
+    cc (at-store .store .ensures, at-pass .pass32 .ensures, at-pass .before .before .before .load .ensures)
 
 pub idct36-spec : {M : Type 1} → statement M
 idct36-spec =

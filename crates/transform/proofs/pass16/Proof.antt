@@ -4,7 +4,7 @@ use mathlib.Core.List.{List}
 use native.Mathlib.Omega.{arith}
 use lib.ListN.{length}
 use lib.Ieee.{Float}
-use Rattle.transform.specs.Transform.{at, factorsOf, differencesOf}
+use Rattle.transform.specs.Transform.{at, halvingFactors, differencesOf}
 use Rattle.transform.proofs.Halving.{wide}
 use borrow.Author.Needs.{needs}
 use Rattle.transform.proofs.pass16.Statement.{statement}
@@ -17,7 +17,7 @@ slice-aggregate-halve-2 : tie.Need-slice-aggregate-halve-2
 slice-aggregate-halve-2 c = search needs
 
 halve-requires : tie.Need-halve-requires
-unfolding factorsOf
+unfolding halvingFactors
 halve-requires c κs = (omega arith, omega arith, ap length (c .before .before .before .before .before .pre .1), omega arith)
 
 slice-aggregate-pass8 : tie.Need-slice-aggregate-pass8
@@ -46,13 +46,17 @@ same-length c = search needs
 
 returns : tie.Need-returns
 returns c =
-    let b = c .before .before .before .before .before .before .before in
-    let s = c .before .before .before .before .before .before .before .before .before .before .before .before .before .before .before .before .before .before .before .before in
-    let g = b .before .before .before .before .before .before .before .halve .ensures in
+    let at-weave = c .before .before in
+    let at-second = at-weave .before .before .before .before .before in
+    let at-first = at-second .before .before .before in
+    let at-halve = at-first .before .before .before .before in
+    let at-lent = at-halve .before .before .before in
+    let s = at-lent .before .before .before in
+    let g = at-halve .halve .ensures in
     let f = at (s .args .factors .now) 0 in
-    wide 3 f f _ _ _ _ _ _ (omega arith) (omega arith) (c .before .before .weave .ensures)
+    wide 3 f f _ _ _ _ _ _ (omega arith) (omega arith) (at-weave .weave .ensures)
     (g .0, g .1 ∙ ap (λ (z : List Float). differencesOf 8 z (s .args .values .now)) (s .pre .1))
-    (b .before .before .before .pass8 .ensures f) (b .pass82 .ensures f)
+    (at-first .pass8 .ensures f) (at-second .pass82 .ensures f)
 
 pub pass16-spec : {M : Type 1} → statement M
 pass16-spec =

@@ -1,7 +1,7 @@
 -- `transform::pass2` meets its contract. Assumes nothing.
 use borrow.Author.Needs.{needs}
 use Rattle.transform.proofs.Halving.{narrow}
-use Rattle.transform.specs.Transform.{factorsOf}
+use Rattle.transform.specs.Transform.{halvingFactors}
 use Rattle.transform.proofs.pass2.Statement.{statement}
 use Rattle.transform.proofs.pass2.Tie as tie
 
@@ -21,7 +21,7 @@ same-length : tie.Need-same-length
 same-length c = search needs
 
 returns : tie.Need-returns
-unfolding factorsOf
+unfolding halvingFactors
 returns c = λ f. narrow f _ (c .before .before .pre)
 
 pub pass2-spec : {M : Type 1} → statement M

@@ -1,7 +1,7 @@
 -- `transform::pass32` meets its contract, by the law of one halving. Assumes nothing.
 use mathlib.Core.Path.{refl}
 use native.Mathlib.Omega.{arith}
-use Rattle.transform.specs.Transform.{factorsOf, usual, other}
+use Rattle.transform.specs.Transform.{halvingFactors, usualFactor, otherFactor}
 use Rattle.transform.proofs.Halving.{wide}
 use borrow.Author.Needs.{needs}
 use Rattle.transform.proofs.pass32.Statement.{statement}
@@ -26,7 +26,7 @@ slice-aggregate-pass16-2 : tie.Need-slice-aggregate-pass16-2
 slice-aggregate-pass16-2 c = search needs
 
 pass16-requires : tie.Need-pass16-requires
-unfolding factorsOf
+unfolding halvingFactors
 pass16-requires c κs = (omega arith, refl)
 
 slice-aggregate-pass16-3 : tie.Need-slice-aggregate-pass16-3
@@ -36,7 +36,7 @@ slice-aggregate-pass16-4 : tie.Need-slice-aggregate-pass16-4
 slice-aggregate-pass16-4 c = search needs
 
 pass16-requires-2 : tie.Need-pass16-requires-2
-unfolding factorsOf
+unfolding halvingFactors
 pass16-requires-2 c κs = (omega arith, refl)
 
 slice-aggregate-weave : tie.Need-slice-aggregate-weave
@@ -52,11 +52,14 @@ same-length : tie.Need-same-length
 same-length c = search needs
 
 returns : tie.Need-returns
-unfolding factorsOf
+unfolding halvingFactors
 returns c =
-    let b = c .before .before .before .before .before .before .before in
-    wide 4 usual other _ _ _ _ _ _ (omega arith) (omega arith) (c .before .before .weave .ensures) (b .before .before .before .before .before .before .before .before .before .halve .ensures)
-    (b .before .before .before .before .pass16 .ensures) (b .pass162 .ensures)
+    let at-weave = c .before .before in
+    let at-second = at-weave .before .before .before .before .before in
+    let at-first = at-second .before .before .before .before in
+    let at-halve = at-first .before .before .before .before .before in
+    wide 4 usualFactor otherFactor _ _ _ _ _ _ (omega arith) (omega arith)
+    (at-weave .weave .ensures) (at-halve .halve .ensures) (at-first .pass16 .ensures) (at-second .pass162 .ensures)
 
 pub pass32-spec : {M : Type 1} → statement M
 pass32-spec =

@@ -1,6 +1,6 @@
 -- `transform::pass4` meets its contract, by the law of one halving. Assumes nothing.
 use native.Mathlib.Omega.{arith}
-use Rattle.transform.specs.Transform.{factorsOf}
+use Rattle.transform.specs.Transform.{halvingFactors}
 use Rattle.transform.proofs.Halving.{wide}
 use borrow.Author.Needs.{needs}
 use Rattle.transform.proofs.pass4.Statement.{statement}
@@ -43,12 +43,14 @@ same-length : tie.Need-same-length
 same-length c = search needs
 
 returns : tie.Need-returns
-unfolding factorsOf
+unfolding halvingFactors
 returns c =
-    let b = c .before .before .before .before .before .before .before in
+    let at-weave = c .before .before in
+    let at-second = at-weave .before .before .before .before .before in
+    let at-first = at-second .before .before .before in
+    let at-halve = at-first .before .before .before .before in
     λ f. wide 1 f f _ _ _ _ _ _ (omega arith) (omega arith)
-    (c .before .before .weave .ensures) (b .before .before .before .before .before .before .before .halve .ensures)
-    (b .before .before .before .pass2 .ensures f) (b .pass22 .ensures f)
+    (at-weave .weave .ensures) (at-halve .halve .ensures) (at-first .pass2 .ensures f) (at-second .pass22 .ensures f)
 
 pub pass4-spec : {M : Type 1} → statement M
 pass4-spec =

@@ -39,7 +39,8 @@ loop-again c =
     let l = c .before .before .loop in (
       omega arith,
       simp length-set (l .inv .1),
-      rw (c .spread .ensures) (table-more nan (slot-at (c .before .before .before .before .before .args .results .now)) (l .slot) (l .i) (omega arith) (l .inv .2)),
+      rw (c .spread .ensures)
+          (table-more nan (slot-at (c .before .before .before .before .before .args .results .now)) (l .slot) (l .i) (omega arith) (l .inv .2)),
     )
 
 same-length : tie.Need-same-length Inv-loop μ-loop

@@ -24,7 +24,12 @@ same-length c = search needs
 
 returns : tie.Need-returns
 unfolding slotOf
-returns c = is-table nan 64 (slot-at (c .before .before .before .before .before .before .before .before .before .before .before .before .before .before .before .before .before .before .args .results .now)) _ (omega arith) (c .before .before .spread-part4 .ensures)
+returns c =
+    let at-fourth = c .before .before in
+    let at-third = at-fourth .before .before .before .before in
+    let at-second = at-third .before .before .before .before in
+    let at-first = at-second .before .before .before .before in
+    is-table nan 64 (slot-at (at-first .before .before .before .before .args .results .now)) _ (omega arith) (at-fourth .spread-part4 .ensures)
 
 pub store-spec : {M : Type 1} → statement M
 store-spec =

@@ -10,7 +10,9 @@ use Rattle.transform.proofs.weave.Statement.{statement}
 use Rattle.transform.proofs.weave.Tie as tie
 
 abbrev Inv-loop : tie.InvT-loop
-Inv-loop first second values₀ i₀ values i = (i ≤ length first) × (length values ≡ length values₀) × ((k : ℕ) → k < i → Pair (at first) (joined-at (length second) second) values k)
+Inv-loop first second values₀ i₀ values i =
+    (i ≤ length first) × (length values ≡ length values₀)
+    × ((k : ℕ) → k < i → Pair (at first) (joined-at (length second) second) values k)
 
 abbrev μ-loop : tie.MeasureT-loop
 μ-loop first second values₀ i₀ values i = length first - i
@@ -56,11 +58,13 @@ loop-less c = omega arith
 
 loop-again : tie.Need-loop-again Inv-loop μ-loop
 loop-again c =
-    let a = c .before .before .before .before .before .before .before .args in
-    let l = c .before .before .before .loop in (
+    let at-loop = c .before .before .before in
+    let a = at-loop .before .before .before .before .args in
+    let l = at-loop .loop in (
       omega arith,
       simp length-set (l .inv .1),
-      rw (c .joined .ensures) (weave-more (at (a .first .now)) (joined-at (length (a .second .now)) (a .second .now)) (l .values) (l .i) (omega arith) (l .inv .2)),
+      rw (c .joined .ensures)
+          (weave-more (at (a .first .now)) (joined-at (length (a .second .now)) (a .second .now)) (l .values) (l .i) (omega arith) (l .inv .2)),
     )
 
 same-length : tie.Need-same-length Inv-loop μ-loop
@@ -70,7 +74,8 @@ returns : tie.Need-returns Inv-loop μ-loop
 returns c =
     let s = c .before .before .before .before .before in
     let l = c .before .loop in
-    is-woven (length (s .args .first .now)) (s .args .first .now) (s .args .second .now) (l .values) (omega arith) (λ k h. rw (← s .pre .0) (l .inv .2 k (omega arith)))
+    is-woven (length (s .args .first .now)) (s .args .first .now) (s .args .second .now) (l .values) (omega arith)
+    (λ k h. rw (← s .pre .0) (l .inv .2 k (omega arith)))
 
 pub weave-spec : {M : Type 1} → statement M
 weave-spec =

@@ -6,7 +6,7 @@ use borrow.Author.Needs.{needs}
 use Rattle.clip.specs.declared.Counted.{Counted}
 use Rattle.clip.specs.Turns.{few-in-clip}
 use Rattle.clip.specs.Rates.{clip-rate-small}
-use Rattle.riff.specs.Header.{headerOf}
+use Rattle.riff.specs.Header.{waveHeaderOf}
 use Rattle.clip.specs.File.{header-part}
 use Rattle.wav.proofs.put_file.Statement.{statement}
 use Rattle.wav.proofs.put_file.Tie as tie
@@ -34,7 +34,7 @@ put-requires : tie.Need-put-requires
 put-requires c κs =
     let p = header-part (c .before .before .before .before .before .args .stream .now) in
     let e = c .before .before .before .count .ensures in
-    (p .0, c .before .header .ensures .0 ∙ ap (λ (x : Counted). headerOf (x .frames) (x .rate)) e ∙ p .1)
+    (p .0, c .before .header .ensures .0 ∙ ap (λ (x : Counted). waveHeaderOf (x .frames) (x .rate)) e ∙ p .1)
 
 put-frames-requires : tie.Need-put-frames-requires
 put-frames-requires c κs = ap (λ (x : Counted). x .frames) (c .before .before .before .before .before .count .ensures)

@@ -1,7 +1,7 @@
 -- `window::add_products` meets its contract: `total` has the first `k` products.
 -- Assumes nothing.
 use mathlib.Core.Path.{_≡_, refl}
-use Prim.Native.Nat.{ℕ, _+_, _-_, _≤_}
+use Prim.Native.Nat.{_+_, _-_, _≤_}
 use native.Mathlib.Omega.{arith}
 use Rattle.window.specs.Output.{taps}
 use Rattle.window.proofs.Products.{product-more}
@@ -57,8 +57,11 @@ loop-less c = omega arith
 loop-again : tie.Need-loop-again Inv-loop μ-loop
 loop-again c =
     let s = c .before .before .before .before in
-    let l = c .before .before .before .loop in
-    (omega arith, product-more (s .args .window .now) (s .args .ring .now) (s .args .row) (s .args .start) (s .args .j) (l .k) (s .args .sum) (l .total) (s .pre .0) (s .pre .2) (s .pre .5) (l .inv .1))
+    let a = s .args in
+    let l = c .before .before .before .loop in (
+      omega arith,
+      product-more (a .window .now) (a .ring .now) (a .row) (a .start) (a .j) (l .k) (a .sum) (l .total) (s .pre .0) (s .pre .2) (s .pre .5) (l .inv .1),
+    )
 
 returns : tie.Need-returns Inv-loop μ-loop
 returns c = let done : c .before .loop .k ≡ 8 = omega arith in rw done at (c .before .loop .inv .1)

@@ -1,6 +1,5 @@
 -- `window::window_slot` meets its contract. Assumes nothing.
 use mathlib.Core.Path.{ap, _∙_}
-use Prim.Native.Nat.{ℕ}
 use mathlib.Core.List.{List}
 use lib.ListN.{getD}
 use lib.Ieee.{Float, nan}
@@ -28,10 +27,13 @@ same-length c = search needs
 
 returns : tie.Need-returns
 returns c =
-    let a = c .before .before .before .before .before .before .before .before .before .before .args in
-    c .before .before .store .ensures
-    ∙ stores-alike (a .output .now) (a .at) _ (outputOf (a .ring .now) (a .p)) 32
-    (λ j l. ap (λ (z : List Float). getD z j nan) (c .before .before .before .before .before .before .outputs .ensures) ∙ at-table nan 32 (outputOf (a .ring .now) (a .p)) j l)
+    let at-store = c .before .before in
+    let at-outputs = at-store .before .before .before .before in
+    let a = at-outputs .before .before .before .before .args in
+    let f = outputOf (a .ring .now) (a .p) in
+    at-store .store .ensures
+    ∙ stores-alike (a .output .now) (a .at) _ f 32
+    (λ j l. ap (λ (z : List Float). getD z j nan) (at-outputs .outputs .ensures) ∙ at-table nan 32 f j l)
 
 pub window-slot-spec : {M : Type 1} → statement M
 window-slot-spec =

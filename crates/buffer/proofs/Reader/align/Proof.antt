@@ -1,3 +1,5 @@
+use mathlib.Core.Path.{ap}
+use native.Mathlib.Omega.{arith}
 use Rattle.ground.specs.Tests.{tests}
 use Rattle.buffer.specs.Calls.{alignOf}
 use borrow.Author.Needs.{needs}
@@ -16,11 +18,11 @@ byte-after-requires : tie.Need-byte-after-requires
 byte-after-requires c κs = search needs
 
 bit-requires : tie.Need-bit-requires
-bit-requires c κs = search needs
+bit-requires c κs = omega (arith, ap (λ p. p .0) (c .byte-after .ensures))
 
 returns-3 : tie.Need-returns-3
 unfolding alignOf
-returns-3 c = search (needs, tests, c .bit .ensures .0, c .before .byte-after .ensures .0)
+returns-3 c = search (needs, tests, c .bit .ensures, c .before .byte-after .ensures)
 
 pub align-spec : {M : Type 1} → statement M
 align-spec = tie.close (tie.spec returns returns-2 byte-after-requires bit-requires returns-3)

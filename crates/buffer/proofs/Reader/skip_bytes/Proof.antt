@@ -1,3 +1,5 @@
+use mathlib.Core.Path.{ap}
+use native.Mathlib.Omega.{arith}
 use Rattle.ground.specs.Tests.{tests}
 use Rattle.buffer.specs.Calls.{skipBytesOf}
 use borrow.Author.Needs.{needs}
@@ -19,7 +21,7 @@ first-other-requires : tie.Need-first-other-requires
 first-other-requires c κs = search needs
 
 bit-requires : tie.Need-bit-requires
-bit-requires c κs = search needs
+bit-requires c κs = omega (arith, ap (λ p. p .0) (c .before .byte-after .ensures))
 
 sub-t8 : tie.Need-sub-t8
 sub-t8 c = search needs
@@ -30,9 +32,9 @@ returns-3 c =
     search (
       needs,
       tests,
-      c .before .before .bit .ensures .0,
+      c .before .before .bit .ensures,
       c .before .before .before .first-other .ensures .0,
-      c .before .before .before .before .byte-after .ensures .1,
+      ap (λ p. p .0) (c .before .before .before .before .byte-after .ensures),
     )
 
 pub skip-bytes-spec : {M : Type 1} → statement M

@@ -17,7 +17,7 @@ byte-requires c κs = search needs
 
 returns-3 : tie.Need-returns-3
 unfolding tellOf
-returns-3 c = search (needs, tests, c .byte .ensures .0)
+returns-3 c = search (needs, tests, c .byte .ensures)
 
 pub tell-spec : {M : Type 1} → statement M
 tell-spec = tie.close (tie.spec returns returns-2 byte-requires returns-3)

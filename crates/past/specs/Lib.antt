@@ -1,0 +1,7 @@
+pub mod Pasts
+pub mod Calls
+pub mod Sound
+pub mod Ring
+pub mod Finite
+pub mod Moves
+pub mod Formats

@@ -1,0 +1,22 @@
+-- A decoder is a state and the memory that it is lent; its past is the calls since its opening. Demand 3: "any two pasts of calls
+-- since opening, nothing else having written to their state or memory"; 01: an opening that gave 8 or 9 does not count as one.
+-- Assumes nothing.
+use Prim.Native.Nat.{ℕ, _≤_, _<_}
+use mathlib.Core.List.{List}
+use lib.Ieee.{Float}
+use lib.ListN.{length}
+use Rattle.synthesis.specs.Slots.{memoryLength}
+use Rattle.buffer.specs.Bits.{longestStream}
+use Rattle.audio.specs.Calls.{openOf, openMemory, hasHeaderOf, decodeOf, decodeMemory}
+use Rattle.header.specs.declared.Reading.{Reading}
+use Rattle.state.specs.declared.Audio.{Audio}
+
+-- every call may be on another stream and, where it takes one, another output: too long, too short, cut, changed, or the same again
+pub data Past : Audio → List Float → Type 0 where
+  opened : (c : Reading) (s : List ℕ) (m : List Float) → length s ≤ longestStream → memoryLength ≤ length m → Past (openOf c s m .state) (openMemory s m)
+  asked : {a : Audio} {m : List Float} → Past a m → (s : List ℕ) → Past (hasHeaderOf s a .state) m
+  rated : {a : Audio} {m : List Float} → Past a m → Past a m
+  decoded : {a : Audio} {m : List Float} → Past a m → (s : List ℕ) (o : List Float) → Past (decodeOf s m o a .state) (decodeMemory s m o a)
+  -- lent a memory too short, and so refused: the decoder's own is not touched
+  refused : {a : Audio} {m : List Float} → Past a m → (s : List ℕ) (o short : List Float) → length short < memoryLength
+      → Past (decodeOf s short o a .state) m

@@ -1,0 +1,2 @@
+pub mod Prime
+pub mod Patterns

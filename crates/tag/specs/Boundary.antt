@@ -1,0 +1,115 @@
+-- The decoder's state and answers as numbers: what firmware, or a test in another language, gets across the boundary, and what each
+-- of the four calls promises there. The calls themselves are audio's. Assumes nothing.
+use Prim.Native.Nat.{ℕ}
+use mathlib.Core.Path.{_≡_, refl}
+use mathlib.Core.Bool.{false}
+use mathlib.Core.List.{List, [], _∷_}
+use lib.ListN.{getD}
+use lib.IntN.{pos}
+use lib.Ieee.{Float, fin, nan}
+use Rattle.buffer.specs.Calls.{readerAt}
+use Rattle.header.specs.Readings.{plain}
+use Rattle.state.specs.declared.Audio.{Audio}
+use Rattle.verdict.specs.declared.Asked.{Asked}
+use Rattle.audio.specs.Calls.{samplerateOf, decodeOf, decodeMemory, decodeOutput}
+use Rattle.audio.specs.Numbers.{headingNumber}
+use Rattle.audio.specs.declared.Rate.{Rate}
+use Rattle.audio.specs.declared.Rate.the-variants.{Hertz as Samples, Refused as RateRefused}
+use Rattle.audio.specs.declared.Answer.{Answer}
+use Rattle.audio.specs.declared.Answer.the-variants.{Frame, Refused}
+use Rattle.audio.specs.declared.Decoded.{Decoded}
+use Rattle.tag.specs.declared.Hertz.{Hertz}
+use Rattle.tag.specs.declared.Played.{Played}
+
+-- ---- the state as three arrays
+
+-- bit position, sample-rate code, bit-rate index, bound, pending data size, ring position. The last two are 0 and not read: the
+-- seventh is kept for the end of the pending frame (02, E6), the eighth for the bytes that a call passed over (E2)
+abbrev pub placesOf : Audio → List ℕ
+placesOf a =
+    a .reader .at .0 ∷ a .format .samplerate ∷ a .format .bitrate ∷ a .format .bound ∷ a .pending ∷ a .ring ∷ 0 ∷ 0 ∷ []
+
+-- mode, frames, the choices. The others are 0 and not read: three are kept for the check word (E8), two are spare
+abbrev pub countsOf : Audio → List ℕ
+countsOf a = a .format .mode ∷ a .frames ∷ a .format .reading .choices ∷ 0 ∷ 0 ∷ 0 ∷ 0 ∷ 0 ∷ []
+
+-- the next start
+abbrev pub timeOf : Audio → List Float
+timeOf a = a .time ∷ []
+
+abbrev pub stateOf : List ℕ → List ℕ → List Float → Audio
+stateOf places counts time =
+    record {
+      reader = readerAt (getD places 0 0);
+      format =
+          record {
+            reading = record { choices = getD counts 2 0 };
+            samplerate = getD places 1 0;
+            bitrate = getD places 2 0;
+            mode = getD counts 0 0;
+            bound = getD places 3 0;
+          };
+      frames = getD counts 1 0;
+      pending = getD places 4 0;
+      ring = getD places 5 0;
+      time = getD time 0 nan;
+    }
+
+-- a state that was written is the state that is read
+pub round-trip : (a : Audio) → stateOf (placesOf a) (countsOf a) (timeOf a) ≡ a
+round-trip a = refl
+
+-- a state saved when there were six places and two counts, widened with zeros, is that state, read plainly
+pub widened : (position samplerate bitrate bound pending ring mode frames : ℕ) (time : Float)
+    → stateOf (position ∷ samplerate ∷ bitrate ∷ bound ∷ pending ∷ ring ∷ 0 ∷ 0 ∷ []) (mode ∷ frames ∷ 0 ∷ 0 ∷ 0 ∷ 0 ∷ 0 ∷ 0 ∷ []) (time ∷ [])
+    ≡ record {
+      reader = readerAt position;
+      format = record { reading = plain; samplerate = samplerate; bitrate = bitrate; mode = mode; bound = bound };
+      frames = frames;
+      pending = pending;
+      ring = ring;
+      time = time;
+    }
+widened position samplerate bitrate bound pending ring mode frames time = refl
+
+-- ---- the answers: 01's number with the rate, or with a frame's start and bits; a refusal gives zeros
+
+abbrev pub hertzOf : Rate → Hertz
+hertzOf (Samples n) = record { number = 0; rate = n }
+hertzOf (RateRefused n) = record { number = n; rate = 0 }
+
+abbrev pub playedOf : Answer → Played
+playedOf (Frame t b) = record { number = 0; start = t; bits = b }
+playedOf (Refused n) = record { number = n; start = fin false 0 (pos 0); bits = 0 }
+
+-- ---- what each call promises: the number that it returns, and what it leaves in all that it was lent
+
+-- the arrays hold the state
+pub record HeldIn (a : Audio) (places counts : List ℕ) (time : List Float) : Type 0 where
+  pub places-hold : places ≡ placesOf a
+  pub counts-hold : counts ≡ countsOf a
+  pub time-holds : time ≡ timeOf a
+
+-- a question: its number, and the state
+pub record TagTold (x : Asked) (number : ℕ) (places counts : List ℕ) (time : List Float) : Type 0 where
+  pub number-is : number ≡ headingNumber (x .answer)
+  pub state-is : HeldIn (x .state) places counts time
+
+pub record TagSamplerate (a : Audio) (number : ℕ) (rate : List ℕ) : Type 0 where
+  pub number-is : number ≡ hertzOf (samplerateOf a) .number
+  pub rate-is : rate ≡ hertzOf (samplerateOf a) .rate ∷ []
+
+module _ (s : List ℕ) (memory output : List Float) (a : Audio) where
+  abbrev decoded : Decoded
+  decoded = decodeOf s memory output a
+
+  abbrev played : Played
+  played = playedOf (decoded .answer)
+
+  pub record TagDecode (number : ℕ) (memory′ output′ : List Float) (places counts : List ℕ) (time start : List Float) (bits : List ℕ) : Type 0 where
+    pub number-is : number ≡ played .number
+    pub memory-is : memory′ ≡ decodeMemory s memory output a
+    pub output-is : output′ ≡ decodeOutput s memory output a
+    pub state-is : HeldIn (decoded .state) places counts time
+    pub start-is : start ≡ played .start ∷ []
+    pub bits-are : bits ≡ played .bits ∷ []

@@ -1,0 +1,69 @@
+-- What a call asks before a frame is decoded: a header, pending or sought (1 to 6), and its data (7).
+-- From 01, "Numbers a call can give": order 8, 9, 10, then 1 to 6 as the header is read, then 7. Assumes nothing.
+use Prim.Native.Nat.{ℕ, _*_}
+use mathlib.Core.Bool.{cond}
+use mathlib.Core.List.{List}
+use lib.Dec.{eqb, ltb}
+use lib.ListN.{length}
+use Rattle.synthesis.specs.Slots.{memoryLength, outputLength}
+use Rattle.buffer.specs.Bits.{longestStream}
+use Rattle.buffer.specs.Calls.{hasOf}
+use Rattle.buffer.specs.declared.Reader.{Reader}
+use Rattle.buffer.specs.declared.Holds.{Holds}
+use Rattle.buffer.specs.declared.Holds.the-variants.{Yes, No, Refused as HoldsRefused}
+use Rattle.header.specs.Header.{headerOf}
+use Rattle.header.specs.declared.Attempt.{Attempt}
+use Rattle.header.specs.declared.Header.{Header}
+use Rattle.header.specs.declared.Header.the-variants.{Accepted, Refused as HeaderRefused}
+use Rattle.state.specs.State.{inRange, standsAt, pends}
+use Rattle.state.specs.declared.Audio.{Audio}
+use Rattle.verdict.specs.declared.Heading.{Heading}
+use Rattle.verdict.specs.declared.Heading.the-variants.{Known, Refused}
+use Rattle.verdict.specs.declared.Asked.{Asked}
+
+abbrev pub asked : Heading → Audio → Asked
+asked h a = record { answer = h; state = a }
+
+-- an accepted header is pending; a refused one moves the position and keeps the old format
+abbrev pub seeking : Audio → Reader → Header → Asked
+seeking a r (Accepted f size) = asked Known (pends r f size a)
+seeking a r (HeaderRefused n) = asked (Refused n) (standsAt r a)
+
+abbrev pub tried : Audio → Attempt → Asked
+tried a t = seeking a (t .next) (t .header)
+
+unfoldable pub attemptOf : List ℕ → Audio → Asked
+attemptOf s a = tried a (headerOf s (a .reader) (a .format))
+
+-- the header that is pending, or else the next
+unfoldable pub headedOf : List ℕ → Audio → Asked
+headedOf s a = cond (eqb (a .pending) 0) (attemptOf s a) (asked Known a)
+
+-- 7: "fewer bits remain than 8 times its data size"
+abbrev pub holding : Audio → Holds → Asked
+holding a Yes = asked Known a
+holding a No = asked (Refused 7) a
+holding a (HoldsRefused n) = asked (Refused n) a
+
+unfoldable pub enoughOf : List ℕ → Audio → Asked
+enoughOf s a = holding a (hasOf s (a .reader) (8 * a .pending))
+
+abbrev pub goesOn : List ℕ → Heading → Audio → Asked
+goesOn s Known a = enoughOf s a
+goesOn s (Refused n) a = asked (Refused n) a
+
+abbrev pub pended : List ℕ → Asked → Asked
+pended s h = goesOn s (h .answer) (h .state)
+
+-- 8, 9 or 10, before anything is read, for a memory and an output of so many values; or 0
+unfoldable pub atOnceOf : List ℕ → ℕ → ℕ → Audio → ℕ
+atOnceOf s memory output a =
+    cond (ltb longestStream (length s)) 8
+    (cond (ltb memory memoryLength) 9 (cond (ltb output outputLength) 9 (cond (inRange a) 0 10)))
+
+abbrev pub unlessAtOnce : ℕ → Audio → Asked → Asked
+unlessAtOnce number a more = cond (eqb number 0) more (asked (Refused number) a)
+
+-- all of it
+unfoldable pub readyOf : List ℕ → ℕ → ℕ → Audio → Asked
+readyOf s memory output a = unlessAtOnce (atOnceOf s memory output a) a (pended s (headedOf s a))

@@ -1,0 +1,324 @@
+-- The verdict walked once: each test with what it found, and the state that it leaves. Whoever asks what comes before a frame cites
+-- `verdict-holds` or `verdict-only`. From 01, "Numbers a call can give". Assumes nothing.
+use Prim.Native.Nat.{ℕ, zero, suc, _*_, _≤_, _<_}
+use mathlib.Core.Path.{_≡_, refl, sym, ap, subst, _∙_}
+use mathlib.Core.Bool.{Bool, true, false, cond}
+use mathlib.Core.List.{List}
+use mathlib.Core.Logic.{_⊎_, inl, inr}
+use native.Mathlib.Omega.{arith}
+use native.Mathlib.Decide.{ℕ-discrete}
+use lib.Dec.{eqb, ltb}
+use lib.Ieee.{div, ofInt, round, units, odd, size}
+use lib.ListN.{length}
+use borrow.Author.Tests.{lt-ltb, le-ltb, eq-eqb, ne-eqb, eqb-true, eqb-false, ltb-true, ltb-false}
+use Rattle.ground.specs.Tests.{by-test}
+use Rattle.synthesis.specs.Slots.{memoryLength, outputLength}
+use Rattle.buffer.specs.Bits.{farthestBit, longestStream}
+use Rattle.buffer.specs.Calls.{hasOf, left}
+use Rattle.buffer.specs.declared.Reader.{Reader}
+use Rattle.header.specs.Header.{headerOf, mostData}
+use Rattle.header.specs.Accepted.{Extended, Good, GoodHeader, header-good}
+use Rattle.header.specs.Moves.{attempt-moves, few-bits-stay}
+use Rattle.header.specs.declared.Format.{Format}
+use Rattle.header.specs.declared.Header.{Header}
+use Rattle.header.specs.declared.Header.the-variants.{Accepted, Refused as HeaderRefused}
+use Rattle.clock.specs.Clock.{startTimeOf, sameBits, onTime}
+use Rattle.state.specs.State.{inRange}
+use Rattle.state.specs.StateLaws.{Ranged, ranged}
+use Rattle.state.specs.declared.Audio.{Audio}
+use Rattle.verdict.specs.Verdict.{asked, seeking, tried, attemptOf, headedOf, enoughOf, goesOn, pended, atOnceOf, unlessAtOnce, readyOf}
+use Rattle.verdict.specs.declared.Heading.{Heading}
+use Rattle.verdict.specs.declared.Heading.the-variants.{Known, Refused}
+use Rattle.verdict.specs.declared.Asked.{Asked}
+
+-- ---- a header attempt leaves frame count and ring position
+
+pub record Stays (a b : Audio) : Type 0 where
+  pub frames : b .frames ≡ a .frames
+  pub ring : b .ring ≡ a .ring
+
+pub stays : (a : Audio) → Stays a a
+stays a = record { frames = refl; ring = refl }
+
+pub attempt-keeps : (s : List ℕ) (a : Audio) → Stays a (attemptOf s a .state)
+unfolding attemptOf
+attempt-keeps s a = let t = headerOf s (a .reader) (a .format) in go (t .next) (t .header)
+  where
+    go : (r : Reader) (h : Header) → Stays a (seeking a r h .state)
+    go r (Accepted f n) = record { frames = refl; ring = refl }
+    go r (HeaderRefused n) = record { frames = refl; ring = refl }
+
+-- ---- and keeps a state in range so, with a header pending if one was found
+
+-- what a decoder's states hold beside being in range: a saved state may not
+pub record Sound (a : Audio) : Type 0 where
+  -- the bound of a pending header, which is not yet cut, is that of its mode and of a mode extension
+  pub extension : (a .pending ≡ 0 → ⊥) → Extended (a .format .mode) (a .format .bound)
+  pub time : a .time ≡ startTimeOf (a .frames) (a .format .samplerate)
+
+pub record Kept (a : Audio) (x : Asked) : Type 0 where
+  pub ranged : Ranged (x .state)
+  pub sound : Sound a → Sound (x .state)
+  pub frames : x .state .frames ≡ a .frames
+  pub some : x .answer ≡ Known → x .state .pending ≡ 0 → ⊥
+
+pub refused-kept : {a : Audio} (n : ℕ) (b : Audio) → Ranged b → (Sound a → Sound b) → b .frames ≡ a .frames → Kept a (asked (Refused n) b)
+refused-kept n b r w f = record { ranged = r; sound = w; frames = f; some = λ e. absurd (let z : _≡_ {A = ℕ} 0 1 = cc in omega arith) }
+
+-- before the first frame it is 0 s at every rate
+first-time : (samplerate : ℕ) → samplerate < 3 → startTimeOf 0 3 ≡ startTimeOf 0 samplerate
+unfolding startTimeOf div ofInt round units odd size
+first-time zero l = refl
+first-time (suc zero) l = refl
+first-time (suc (suc zero)) l = refl
+first-time (suc (suc (suc k))) l = absurd (let f : suc (suc (suc k)) < 3 = l in omega arith)
+
+module _ (a : Audio) (r : Reader) (w : Ranged a) (near : r .at .0 ≤ farthestBit) (few : a .frames * 16 ≤ r .at .0) where
+  -- refused: the position moves, and that is all
+  moved : (n : ℕ) → Kept a (seeking a r (HeaderRefused n))
+  moved n =
+      refused-kept n _
+      (record {
+        near = near;
+        few = few;
+        samplerate = w .samplerate;
+        bitrate = w .bitrate;
+        mode = w .mode;
+        bound = w .bound;
+        mono = w .mono;
+        place = w .place;
+        large = w .large;
+        small = w .small;
+        known = w .known;
+        first = w .first;
+        time = w .time;
+      })
+      (λ h. record { extension = h .extension; time = h .time }) refl
+
+  -- accepted: the sample rate is the old one, or there was none
+  module _ (f : Format) (n : ℕ) (g : Good (a .format) f n) where
+    same-start : startTimeOf (a .frames) (a .format .samplerate) ≡ startTimeOf (a .frames) (f .samplerate)
+    same-start = go (ℕ-discrete (a .format .samplerate) 3)
+      where
+        go : Dec (a .format .samplerate ≡ 3) → startTimeOf (a .frames) (a .format .samplerate) ≡ startTimeOf (a .frames) (f .samplerate)
+        go (yes e) = rw (e, w .first e) (first-time (f .samplerate) (g .samplerate))
+        go (no e) = ap (startTimeOf (a .frames)) (sym (g .same e .samplerate))
+
+    accepted : Kept a (seeking a r (Accepted f n))
+    unfolding onTime
+    accepted =
+        record {
+          ranged =
+              record {
+                near = near;
+                few = few;
+                samplerate = omega arith;
+                bitrate = omega arith;
+                mode = omega arith;
+                bound = g .bound;
+                mono = g .mono;
+                place = w .place;
+                large = λ _. g .least;
+                small = g .most;
+                known = λ e. absurd (let l = g .samplerate in omega arith);
+                first = λ e. absurd (let l = g .samplerate in omega arith);
+                time = ap (sameBits (a .time)) (sym same-start) ∙ w .time;
+              };
+          sound = λ h. record { extension = λ _. g .extension; time = h .time ∙ same-start };
+          frames = refl;
+          some = λ _ e. omega arith;
+        }
+
+  sought : (h : Header) → GoodHeader (a .format) h → Kept a (seeking a r h)
+  sought (Accepted f n) g = accepted f n g
+  sought (HeaderRefused n) g = moved n
+
+module _ (s : List ℕ) (short : length s ≤ longestStream) (a : Audio) (w : Ranged a) where
+  pub attempt-kept : Kept a (attemptOf s a)
+  unfolding attemptOf
+  attempt-kept = go (ltb (left s (a .reader)) 48) refl
+    where
+      go : (t : Bool) → ltb (left s (a .reader)) 48 ≡ t → Kept a (tried a (headerOf s (a .reader) (a .format)))
+      go true e =
+          rw (few-bits-stay s (a .reader) (a .format) short (w .near) (ltb-true _ _ e)) (moved a (a .reader) w (w .near) (w .few) 1)
+      go false e =
+          let few = w .few in
+          let m = attempt-moves s (a .reader) (a .format) (record { short = short; near = w .near; enough = ltb-false _ _ e }) in
+          let t = headerOf s (a .reader) (a .format) in
+          sought a (t .next) w (omega arith) (omega arith) (t .header) (header-good s (a .reader) (a .format))
+
+  pub headed-kept : Kept a (headedOf s a)
+  unfolding headedOf
+  headed-kept =
+      by-test (Kept a) (eqb (a .pending) 0) _ _ (λ _. attempt-kept)
+      (λ e. record { ranged = w; sound = λ h. h; frames = refl; some = λ _. eqb-false _ _ e })
+
+-- ---- the walk
+
+-- neither 8 nor 9
+pub record Room (s : List ℕ) (memory output : ℕ) : Type 0 where
+  pub short : length s ≤ longestStream
+  pub memory-long : memoryLength ≤ memory
+  pub output-long : outputLength ≤ output
+
+-- nor 10
+pub record Called (s : List ℕ) (memory output : ℕ) (a : Audio) : Type 0 where
+  pub room : Room s memory output
+  pub within : inRange a ≡ true
+
+-- 8, 9, 10: nothing is read
+pub data AtOnce (s : List ℕ) (memory output : ℕ) (a : Audio) : ℕ → Type 0 where
+  eight : longestStream < length s → AtOnce s memory output a 8
+  nine : length s ≤ longestStream → (memory < memoryLength) ⊎ (output < outputLength) → AtOnce s memory output a 9
+  ten : Room s memory output → inRange a ≡ false → AtOnce s memory output a 10
+
+-- the state with a header pending: the one that waits, or the one that an attempt accepts
+pub data Heads (s : List ℕ) (a : Audio) : Audio → Type 0 where
+  waits : (a .pending ≡ 0 → ⊥) → Heads s a a
+  accepts : {b : Audio} → a .pending ≡ 0 → attemptOf s a ≡ asked Known b → Heads s a b
+
+-- after a header: 7, or all that a frame asks for
+pub data Verdict (s : List ℕ) (memory output : ℕ) (a : Audio) : Asked → Type 0 where
+  at-once : {n : ℕ} → AtOnce s memory output a n → Verdict s memory output a (asked (Refused n) a)
+  no-header : {n : ℕ} {b : Audio} → Called s memory output a → a .pending ≡ 0 → attemptOf s a ≡ asked (Refused n) b
+      → Verdict s memory output a (asked (Refused n) b)
+  cut-off : {b : Audio} → Called s memory output a → Heads s a b → left s (b .reader) < 8 * b .pending
+      → Verdict s memory output a (asked (Refused 7) b)
+  whole : {b : Audio} → Called s memory output a → Heads s a b → 8 * b .pending ≤ left s (b .reader)
+      → Verdict s memory output a (asked Known b)
+
+module _ {s : List ℕ} {memory output : ℕ} {a : Audio} (c : Called s memory output a) where
+  headed : {b : Audio} → Heads s a b → headedOf s a ≡ asked Known b
+  unfolding headedOf
+  headed (waits n) = simp (ne-eqb _ _ n)
+  headed (accepts z e) = simp (eq-eqb _ _ z) e
+
+  pub heads-kept : {b : Audio} → Heads s a b → Kept a (asked Known b)
+  heads-kept h = subst (Kept a) (headed h) (headed-kept s (c .room .short) a (ranged a (c .within)))
+
+  -- the data of a header, in a state in range
+  module _ {b : Audio} (h : Heads s a b) where
+    near : b .reader .at .0 ≤ farthestBit
+    near = heads-kept h .ranged .near
+
+    short-of-data : left s (b .reader) < 8 * b .pending → enoughOf s b ≡ asked (Refused 7) b
+    unfolding enoughOf hasOf
+    short-of-data l = simp (le-ltb _ _ (c .room .short), le-ltb _ _ near, lt-ltb _ _ l)
+
+    has-data : 8 * b .pending ≤ left s (b .reader) → enoughOf s b ≡ asked Known b
+    unfolding enoughOf hasOf
+    has-data l = simp (le-ltb _ _ (c .room .short), le-ltb _ _ near, le-ltb _ _ l)
+
+    after-header : Verdict s memory output a (enoughOf s b)
+    after-header = go (ltb (left s (b .reader)) (8 * b .pending)) refl
+      where
+        go : (t : Bool) → ltb (left s (b .reader)) (8 * b .pending) ≡ t → Verdict s memory output a (enoughOf s b)
+        go true e = rw (short-of-data (ltb-true _ _ e)) (cut-off c h (ltb-true _ _ e))
+        go false e = rw (has-data (ltb-false _ _ e)) (whole c h (ltb-false _ _ e))
+
+  called-verdict : Verdict s memory output a (pended s (headedOf s a))
+  unfolding headedOf
+  called-verdict =
+      by-test (λ x. Verdict s memory output a (pended s x)) (eqb (a .pending) 0) _ _
+      (λ z. go (eqb-true _ _ z) (attemptOf s a .answer) refl) (λ z. after-header (waits (eqb-false _ _ z)))
+    where
+      go : a .pending ≡ 0 → (h : Heading) → attemptOf s a .answer ≡ h → Verdict s memory output a (goesOn s h (attemptOf s a .state))
+      go z Known e = after-header (accepts z (ap (λ (y : Heading). asked y (attemptOf s a .state)) e))
+      go z (Refused n) e = no-header c z (ap (λ (y : Heading). asked y (attemptOf s a .state)) e)
+
+  called-ready : readyOf s memory output a ≡ pended s (headedOf s a)
+  unfolding readyOf atOnceOf
+  called-ready =
+      simp (le-ltb _ _ (c .room .short), le-ltb _ _ (c .room .memory-long), le-ltb _ _ (c .room .output-long), c .within)
+
+  headed-verdict : {b : Audio} → Heads s a b → enoughOf s b ≡ readyOf s memory output a
+  headed-verdict h = sym (called-ready ∙ ap (pended s) (headed h))
+
+  turned-down : {n : ℕ} {b : Audio} → a .pending ≡ 0 → attemptOf s a ≡ asked (Refused n) b → asked (Refused n) b ≡ readyOf s memory output a
+  unfolding headedOf
+  turned-down z e = sym (called-ready ∙ simp (eq-eqb _ _ z) (ap (pended s) e))
+
+module _ (s : List ℕ) (memory output : ℕ) (a : Audio) where
+  -- the walk itself: what each test found, for what holds of the number that it gives
+  by-tests : (P : ℕ → Type 0) → ((n : ℕ) → AtOnce s memory output a n → P n) → (Called s memory output a → P 0) → P (atOnceOf s memory output a)
+  unfolding atOnceOf
+  by-tests P refused called =
+      by-test P (ltb longestStream (length s)) _ _ (λ l. refused 8 (eight (ltb-true _ _ l)))
+      (λ l. by-test P (ltb memory memoryLength) _ _ (λ m. refused 9 (nine (ltb-false _ _ l) (inl (ltb-true _ _ m))))
+      (λ m. by-test P (ltb output outputLength) _ _ (λ o. refused 9 (nine (ltb-false _ _ l) (inr (ltb-true _ _ o))))
+      (λ o. let room : Room s memory output = record { short = ltb-false _ _ l; memory-long = ltb-false _ _ m; output-long = ltb-false _ _ o } in
+      by-test P (inRange a) _ _ (λ r. called (record { room = room; within = r })) (λ r. refused 10 (ten room r)))))
+
+  pub verdict-holds : Verdict s memory output a (readyOf s memory output a)
+  unfolding readyOf
+  verdict-holds =
+      by-tests (λ n. Verdict s memory output a (unlessAtOnce n a (pended s (headedOf s a)))) (λ n h. refused-verdict h) (λ c. called-verdict c)
+    where
+      refused-verdict : {n : ℕ} → AtOnce s memory output a n → Verdict s memory output a (unlessAtOnce n a (pended s (headedOf s a)))
+      refused-verdict (eight l) = at-once (eight l)
+      refused-verdict (nine l m) = at-once (nine l m)
+      refused-verdict (ten l r) = at-once (ten l r)
+
+  -- for the code: 0 is given where none of the three holds
+  pub none-at-once : atOnceOf s memory output a ≡ 0 → Called s memory output a
+  none-at-once = by-tests (λ n. n ≡ 0 → Called s memory output a) (λ n h e. absurd (some h e)) (λ c _. c)
+    where
+      some : {n : ℕ} → AtOnce s memory output a n → n ≡ 0 → ⊥
+      some (eight l) e = omega arith
+      some (nine l m) e = omega arith
+      some (ten l r) e = omega arith
+
+  at-once-only : {n : ℕ} → AtOnce s memory output a n → asked (Refused n) a ≡ readyOf s memory output a
+  unfolding readyOf atOnceOf
+  at-once-only (eight l) = simp (lt-ltb _ _ l)
+  at-once-only (nine l (inl m)) = simp (le-ltb _ _ l, lt-ltb _ _ m)
+  at-once-only (nine l (inr o)) =
+      simp (le-ltb _ _ l, lt-ltb _ _ o)
+      (by-test (λ n. asked (Refused 9) a ≡ unlessAtOnce n a (pended s (headedOf s a))) (ltb memory memoryLength) _ _ (λ _. refl) (λ _. refl))
+  at-once-only (ten l r) = simp (le-ltb _ _ (l .short), le-ltb _ _ (l .memory-long), le-ltb _ _ (l .output-long), r)
+
+  pub verdict-only : {x : Asked} → Verdict s memory output a x → x ≡ readyOf s memory output a
+  verdict-only (at-once h) = at-once-only h
+  verdict-only (no-header c z e) = turned-down c z e
+  verdict-only (cut-off c h l) = sym (short-of-data c h l) ∙ headed-verdict c h
+  verdict-only (whole c h l) = sym (has-data c h l) ∙ headed-verdict c h
+
+-- ---- what comes of it
+
+pub verdict-kept : {s : List ℕ} {memory output : ℕ} {a : Audio} {x : Asked} → Ranged a → Verdict s memory output a x → Kept a x
+verdict-kept {a = a} w (at-once {n} h) = refused-kept n a w (λ h. h) refl
+verdict-kept {s} {a = a} w (no-header c z e) = subst (Kept a) e (attempt-kept s (c .room .short) a w)
+verdict-kept w (cut-off {b} c h l) = let k = heads-kept c h in refused-kept 7 b (k .ranged) (k .sound) (k .frames)
+verdict-kept w (whole c h l) = heads-kept c h
+
+-- what holds of the state, and of the one that an attempt leaves, holds of the verdict's
+pub verdict-leaves : {s : List ℕ} {memory output : ℕ} {a : Audio} {x : Asked} (P : Audio → Type 0) → P a → P (attemptOf s a .state)
+    → Verdict s memory output a x → P (x .state)
+verdict-leaves P same attempt (at-once h) = same
+verdict-leaves P same attempt (no-header c z e) = subst (λ (x : Asked). P (x .state)) e attempt
+verdict-leaves P same attempt (cut-off c (waits n) l) = same
+verdict-leaves P same attempt (cut-off c (accepts z e) l) = subst (λ (x : Asked). P (x .state)) e attempt
+verdict-leaves P same attempt (whole c (waits n) l) = same
+verdict-leaves P same attempt (whole c (accepts z e) l) = subst (λ (x : Asked). P (x .state)) e attempt
+
+-- ---- for the code: what the callees ask, and the answers put together from their parts
+
+pub pended-small : (s : List ℕ) (a : Audio) (x : Asked) → length s ≤ longestStream → inRange a ≡ true → x ≡ headedOf s a → x .state .pending ≤ mostData
+pended-small s a x short r e = rw e (headed-kept s short a (ranged a r) .ranged .small)
+
+pub goes-on : (s : List ℕ) (h y x : Asked) → h ≡ y → h .answer ≡ Known → x ≡ enoughOf s (h .state) → x ≡ pended s y
+goes-on s h y x e k g = g ∙ ap (λ z. goesOn s z (h .state)) (sym k) ∙ ap (pended s) e
+
+pub goes-back : (s : List ℕ) (h y : Asked) (n : ℕ) → h ≡ y → h .answer ≡ Refused n → asked (Refused n) (h .state) ≡ pended s y
+goes-back s h y n e k = ap (λ z. goesOn s z (h .state)) (sym k) ∙ ap (pended s) e
+
+module _ (s : List ℕ) (memory output : ℕ) (a : Audio) (n : ℕ) (is : n ≡ atOnceOf s memory output a) where
+  pub refuses-at-once : (n ≡ 0 → ⊥) → asked (Refused n) a ≡ readyOf s memory output a
+  unfolding readyOf
+  refuses-at-once some =
+      ap (λ k. cond k (pended s (headedOf s a)) (asked (Refused n) a)) (sym (ne-eqb n 0 some))
+      ∙ ap (λ k. unlessAtOnce k a (pended s (headedOf s a))) is
+
+  pub asks-on : n ≡ 0 → (x : Asked) → x ≡ pended s (headedOf s a) → x ≡ readyOf s memory output a
+  unfolding readyOf
+  asks-on none x e = e ∙ ap (λ k. unlessAtOnce k a (pended s (headedOf s a))) (sym none ∙ is)

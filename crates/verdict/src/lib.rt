@@ -1,0 +1,125 @@
+// What a call asks before a frame is decoded: 8, 9, 10, then a header, pending or sought (1 to 6), and its data (7).
+use buffer::Holds;
+use buffer::LONGEST_STREAM;
+use header::Header;
+use state::Audio;
+use synthesis::MEMORY;
+use synthesis::OUTPUT;
+ghost use mathlib.Core.Path.{_≡_};
+ghost use Prim.Native.Nat.{_≤_};
+ghost use Rattle.header.specs.Header.{mostData};
+ghost use Rattle.verdict.specs.Verdict.{attemptOf, headedOf, enoughOf, atOnceOf, readyOf};
+
+// Whether a header is there.
+pub enum Heading {
+    Known,
+    Refused(u32),
+}
+
+pub struct Asked {
+    pub answer: Heading,
+    pub state: Audio,
+}
+
+// One header attempt: an accepted header is pending, a refused one moves the position and leaves the rest.
+pub fn attempt(a: Audio, stream: &[u8]) -> Asked
+    ensures { λ x. ⌜ x ≡ attemptOf (now (stream .entry)) a ⌝ }
+{
+    let t = header::decode_header(stream, a.reader, a.format);
+    let h = t.header;
+    let reader = t.next;
+    let mut state = a;
+    state.reader = reader;
+    match h {
+        Header::Accepted(known, size) => {
+            state.format = known;
+            state.pending = size;
+            Asked {
+                answer: Heading::Known,
+                state,
+            }
+        }
+        Header::Refused(number) => Asked {
+            answer: Heading::Refused(number),
+            state,
+        },
+    }
+}
+
+// The header that is pending, or else the next.
+fn headed(a: Audio, stream: &[u8]) -> Asked
+    ensures { λ x. ⌜ x ≡ headedOf (now (stream .entry)) a ⌝ }
+{
+    if a.pending == 0 {
+        return attempt(a, stream);
+    }
+    Asked {
+        answer: Heading::Known,
+        state: a,
+    }
+}
+
+// Whether the pending header's data remain.
+fn enough(a: Audio, stream: &[u8]) -> Asked
+    requires { ⌜ a .pending ≤ mostData ⌝ }
+    ensures { λ x. ⌜ x ≡ enoughOf (now (stream .entry)) a ⌝ }
+{
+    let reader = a.reader;
+    let h = reader.has(stream, 8 * a.pending);
+    match h {
+        Holds::Yes => Asked {
+            answer: Heading::Known,
+            state: a,
+        },
+        Holds::No => Asked {
+            answer: Heading::Refused(7),
+            state: a,
+        },
+        Holds::Refused(number) => Asked {
+            answer: Heading::Refused(number),
+            state: a,
+        },
+    }
+}
+
+// 8, 9 or 10, before anything is read; or 0.
+fn refused_at_once(a: Audio, stream: &[u8], memory: usize, output: usize) -> u32
+    ensures { λ r. ⌜ r ≡ atOnceOf (now (stream .entry)) memory output a ⌝ }
+{
+    if LONGEST_STREAM < stream.len() {
+        return 8;
+    }
+    if memory < MEMORY {
+        return 9;
+    }
+    if output < OUTPUT {
+        return 9;
+    }
+    if state::in_range(a) {
+        return 0;
+    }
+    10
+}
+
+// All that is asked before a frame, with the lengths of the memory and the output.
+pub fn ready(a: Audio, stream: &[u8], memory: usize, output: usize) -> Asked
+    ensures { λ x. ⌜ x ≡ readyOf (now (stream .entry)) memory output a ⌝ }
+{
+    let number = refused_at_once(a, stream, memory, output);
+    if number != 0 {
+        return Asked {
+            answer: Heading::Refused(number),
+            state: a,
+        };
+    }
+    let h = headed(a, stream);
+    let state = h.state;
+    let answer = h.answer;
+    match answer {
+        Heading::Known => enough(state, stream),
+        Heading::Refused(n) => Asked {
+            answer: Heading::Refused(n),
+            state,
+        },
+    }
+}
