@@ -31,7 +31,7 @@ static void play(size_t length) {
     struct tag_state s;
     double start[1];
     size_t bits[1];
-    tag_open(stream, length, memory, TAG_MEMORY, s.places, s.counts, s.time);
+    tag_open(stream, length, memory, TAG_MEMORY, s.places, s.counts, s.time, 0);
     while (tag_decode(stream, length, memory, TAG_MEMORY, output, TAG_OUTPUT,
                       s.places, s.counts, s.time, start, bits) == TAG_DONE) {
     }

@@ -20,7 +20,7 @@ static int which;
 static void call(void) {
     switch (which) {
     case OPEN:
-        number = tag_open(stream, length, memory, TAG_MEMORY, s.places, s.counts, s.time);
+        number = tag_open(stream, length, memory, TAG_MEMORY, s.places, s.counts, s.time, 0);
         break;
     case HAS_HEADER:
         number = tag_has_header(stream, length, s.places, s.counts, s.time);
@@ -67,7 +67,7 @@ static int on_file(const char *name) {
         measure(HAS_HEADER);
         measure(SAMPLERATE);
         measure(DECODE);
-    } while (number != TAG_END && number != TAG_CUT_OFF);
+    } while (!tag_ends(number) && !tag_callers_mistake(number));
     return 0;
 }
 

@@ -19,17 +19,17 @@ int main(int count, char **words) {
     struct tag_state s;
     double start[1];
     size_t bits[1], length = fread(stream, 1, sizeof stream, file);
-    uint32_t number = tag_open(stream, length, memory, TAG_MEMORY, s.places, s.counts, s.time);
+    uint32_t number = tag_open(stream, length, memory, TAG_MEMORY, s.places, s.counts, s.time, 0);
     if (number >= TAG_NO_SYNC)
         printf("refused %u at %zu\n", number, s.places[TAG_POSITION] / 8);
     do {
         number = tag_decode(stream, length, memory, TAG_MEMORY, output, TAG_OUTPUT, s.places, s.counts, s.time, start, bits);
         size_t at = (s.places[TAG_POSITION] - bits[0]) / 8;
         if (number == TAG_DONE)
-            printf("frame %u at %zu bits %zu sum %016llx\n", s.counts[1] - 1, at, bits[0], checksum((uint8_t *)output, sizeof output));
+            printf("frame %u at %zu bits %zu sum %016llx\n", s.counts[TAG_FRAMES] - 1, at, bits[0], checksum((uint8_t *)output, sizeof output));
         else
-            printf("%s %u at %zu\n", number == TAG_END || number == TAG_CUT_OFF ? "end" : "refused", number, at);
-        /* 2 to 6 are not the end: the player that took a refusal for one read out the wrong jar. */
-    } while (number != TAG_END && number < TAG_CUT_OFF);
-    return number > TAG_CUT_OFF;
+            printf("%s %u at %zu\n", tag_ends(number) ? "end" : "refused", number, at);
+        /* Any other number is not the end: the player that took a refusal for one read out the wrong jar. */
+    } while (!tag_ends(number) && !tag_callers_mistake(number));
+    return tag_callers_mistake(number);
 }

@@ -2,7 +2,7 @@
 
 mod tag;
 
-use tag::{Decoder, Refusal, MEMORY, OUTPUT};
+use tag::{count::FRAMES, place::POSITION, Decoder, Refusal, MEMORY, OUTPUT};
 
 fn checksum(output: &[f32]) -> u64 {
     let bytes = output.iter().flat_map(|sample| sample.to_bits().to_le_bytes());
@@ -14,16 +14,16 @@ fn checksum(output: &[f32]) -> u64 {
 fn main() -> std::io::Result<()> {
     let stream = std::fs::read(std::env::args().nth(1).expect("a clip"))?;
     let (mut memory, mut output) = ([0.0; MEMORY], [0.0; OUTPUT]);
-    let (mut d, opened) = Decoder::new(&stream, &mut memory);
+    let (mut d, opened) = Decoder::new(&stream, &mut memory, 0);
     if let Err(refusal) = opened {
         if refusal != Refusal::END {
-            println!("refused {} at {}", refusal.0, d.places[0] / 8);
+            println!("refused {} at {}", refusal.0, d.places[POSITION] / 8);
         }
     }
     loop {
         match d.decode(&stream, &mut memory, &mut output) {
             Ok(frame) => {
-                let (number, at) = (d.counts[1] - 1, (d.places[0] - frame.bits) / 8);
+                let (number, at) = (d.counts[FRAMES] - 1, (d.places[POSITION] - frame.bits) / 8);
                 println!(
                     "frame {number} at {at} bits {} sum {:016x}",
                     frame.bits,
@@ -32,9 +32,9 @@ fn main() -> std::io::Result<()> {
             }
             Err(refusal) => {
                 let word = if refusal.ends() { "end" } else { "refused" };
-                println!("{word} {} at {}", refusal.0, d.places[0] / 8);
-                // 2 to 6 are not the end: the player that took a refusal for one read out the wrong jar.
-                if refusal.ends() || refusal.0 > Refusal::CUT_OFF.0 {
+                println!("{word} {} at {}", refusal.0, d.places[POSITION] / 8);
+                // Any other number is not the end: the player that took a refusal for one read out the wrong jar.
+                if refusal.ends() || refusal.callers_mistake() {
                     break;
                 }
             }

@@ -5,29 +5,53 @@
 pub const STREAM: usize = 16_777_216;
 pub const MEMORY: usize = 2_048;
 pub const OUTPUT: usize = 2_304;
+pub const PLACES: usize = 8;
+pub const COUNTS: usize = 8;
+
+/// What stands where in a decoder's `places`. The last two are kept for later, written 0 and not read today.
+pub mod place {
+    pub const POSITION: usize = 0;
+    pub const SAMPLE_RATE_CODE: usize = 1;
+    pub const BIT_RATE_INDEX: usize = 2;
+    pub const BOUND: usize = 3;
+    pub const PENDING: usize = 4;
+    pub const RING: usize = 5;
+    pub const FRAME_END: usize = 6;
+    pub const SKIPPED: usize = 7;
+}
+
+/// The same for `counts`. The five behind these are kept for later, written 0 and not read today.
+pub mod count {
+    pub const MODE: usize = 0;
+    pub const FRAMES: usize = 1;
+    pub const CHOICES: usize = 2;
+}
 
 /// The calls themselves. A slice is lent as a pointer and a length, an array as a pointer.
 pub mod boundary {
+    use super::{COUNTS, PLACES};
+
     extern "C" {
         pub fn tag_open(
             stream: *const u8,
             length: usize,
             memory: *mut f32,
             memory_count: usize,
-            places: *mut [usize; 6],
-            counts: *mut [u32; 2],
+            places: *mut [usize; PLACES],
+            counts: *mut [u32; COUNTS],
             time: *mut [f64; 1],
+            choices: u32,
         ) -> u32;
         pub fn tag_has_header(
             stream: *const u8,
             length: usize,
-            places: *mut [usize; 6],
-            counts: *mut [u32; 2],
+            places: *mut [usize; PLACES],
+            counts: *mut [u32; COUNTS],
             time: *mut [f64; 1],
         ) -> u32;
         pub fn tag_samplerate(
-            places: *const [usize; 6],
-            counts: *const [u32; 2],
+            places: *const [usize; PLACES],
+            counts: *const [u32; COUNTS],
             time: *const [f64; 1],
             rate: *mut [u32; 1],
         ) -> u32;
@@ -38,8 +62,8 @@ pub mod boundary {
             memory_count: usize,
             output: *mut f32,
             output_count: usize,
-            places: *mut [usize; 6],
-            counts: *mut [u32; 2],
+            places: *mut [usize; PLACES],
+            counts: *mut [u32; COUNTS],
             time: *mut [f64; 1],
             start: *mut [f64; 1],
             bits: *mut [usize; 1],
@@ -67,6 +91,11 @@ impl Refusal {
     pub fn ends(self) -> bool {
         self == Refusal::END || self == Refusal::CUT_OFF
     }
+
+    /// Whether the caller lent or saved something wrong: the same call gives the same number until that is mended.
+    pub fn callers_mistake(self) -> bool {
+        self == Refusal::LONG_STREAM || self == Refusal::LITTLE_ROOM || self == Refusal::BAD_STATE
+    }
 }
 
 /// A frame that was decoded: its start in seconds, and the bits that it used.
@@ -79,10 +108,10 @@ pub struct Frame {
 /// A decoder's state, as plain numbers. With its memory it can be kept and taken up again.
 #[derive(Clone, Copy, Debug, PartialEq)]
 pub struct Decoder {
-    /// Bit position, sample-rate code, bit-rate index, bound, pending data size, ring position.
-    pub places: [usize; 6],
-    /// Mode, frames decoded.
-    pub counts: [u32; 2],
+    /// See `place`.
+    pub places: [usize; PLACES],
+    /// See `count`.
+    pub counts: [u32; COUNTS],
     /// When the next frame starts, in seconds.
     pub time: [f64; 1],
 }
@@ -95,17 +124,19 @@ fn answer<T>(number: u32, value: T) -> Result<T, Refusal> {
 }
 
 impl Decoder {
-    /// Clears the memory and tries the first header. The decoder can go on whatever the answer is.
-    pub fn new(stream: &[u8], memory: &mut [f32]) -> (Decoder, Result<(), Refusal>) {
+    /// Clears the memory and tries the first header. The decoder can go on, but after 8 or 9 nothing was cleared: open
+    /// again. No bit of `choices` does anything yet: give 0.
+    pub fn new(stream: &[u8], memory: &mut [f32], choices: u32) -> (Decoder, Result<(), Refusal>) {
         let mut d = Decoder {
-            places: [0; 6],
-            counts: [0; 2],
+            places: [0; PLACES],
+            counts: [0; COUNTS],
             time: [0.0],
         };
+        let (data, length) = (stream.as_ptr(), stream.len());
         let (ring, room) = (memory.as_mut_ptr(), memory.len());
         let (places, counts, time) = (&mut d.places, &mut d.counts, &mut d.time);
         // Safe, here and below: each pointer and length is that of a slice or an array lent for the call.
-        let number = unsafe { boundary::tag_open(stream.as_ptr(), stream.len(), ring, room, places, counts, time) };
+        let number = unsafe { boundary::tag_open(data, length, ring, room, places, counts, time, choices) };
         (d, answer(number, ()))
     }
 

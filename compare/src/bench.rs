@@ -66,7 +66,7 @@ pub fn by_source(stream: &[u8]) -> (f64, i64) {
 pub fn by_port(stream: &[u8]) -> (f64, i64) {
     let (mut memory, mut output) = ([0.0; MEMORY], [0.0; OUTPUT]);
     timed(|| {
-        let (mut d, _) = Decoder::new(stream, &mut memory);
+        let (mut d, _) = Decoder::new(stream, &mut memory, 0);
         let mut frames = 0;
         while d.decode(stream, &mut memory, &mut output).is_ok() {
             std::hint::black_box(output[0]);

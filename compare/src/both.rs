@@ -3,7 +3,8 @@
 //! what is lent beyond them. The Rust answers a refusal with None; its number is told by `by_01`.
 
 use crate::by_01::{by_01, decode_by_01};
-use crate::firmware::{Decoder, Refusal, MEMORY, OUTPUT};
+use crate::firmware::{Decoder, Refusal, COUNTS, MEMORY, OUTPUT, PLACES};
+use crate::saved::{fresh, written};
 use crate::source::traced::audio::Audio;
 use crate::source::{Format, NO_FORMAT};
 use crate::tally::{hex, Tally};
@@ -12,7 +13,7 @@ use crate::tally::{hex, Tally};
 pub const GUARD: f32 = 12_345.678;
 
 /// The state as both sides have it: places, counts, the bits of the next start time.
-pub type State = ([usize; 6], [u32; 2], u64);
+pub type State = ([usize; PLACES], [u32; COUNTS], u64);
 
 pub struct Both<'a> {
     tally: &'a mut Tally,
@@ -23,6 +24,8 @@ pub struct Both<'a> {
     pub memory: Vec<f32>,
     pub output: Vec<f32>,
     audio: Audio,
+    /// What must stand in the numbers that the Rust has not: the choices, and what is kept for later.
+    rest: Decoder,
     /// The Rust's last frame.
     heard: Vec<f32>,
 }
@@ -35,18 +38,21 @@ pub fn number_of<T>(answer: Result<T, Refusal>) -> u32 {
     answer.err().map_or(0, |refusal| refusal.0)
 }
 
-fn source_state(audio: &Audio) -> State {
+/// The Rust's state, and `rest` where it has none.
+fn source_state(audio: &Audio, rest: &Decoder) -> State {
     let f = audio.format();
     let (frames, time) = audio.clock();
-    let places = [
+    let (mut places, mut counts) = (rest.places, rest.counts);
+    places[..6].copy_from_slice(&[
         audio.at(),
         f.samplerate_index,
         f.bitrate_index,
         f.bound,
         audio.pending(),
         audio.ring(),
-    ];
-    (places, [f.mode as u32, frames as u32], time.to_bits())
+    ]);
+    counts[..2].copy_from_slice(&[f.mode as u32, frames as u32]);
+    (places, counts, time.to_bits())
 }
 
 /// A value's bits. Two NaNs count as the same: which bits a NaN has is no promise of a processor, or of the Rust. Only a
@@ -78,10 +84,10 @@ fn difference(lent: &[f32], expected: &[&[f32]]) -> Option<(usize, u32, u32)> {
 }
 
 impl<'a> Both<'a> {
-    /// Opens both on a stream, with so many values lent beyond memory and output.
-    pub fn open(tally: &'a mut Tally, name: &'a str, stream: &[u8], beyond: usize) -> Self {
+    /// Opens both on a stream, with so many values lent beyond memory and output. The Rust knows no choices.
+    pub fn open(tally: &'a mut Tally, name: &'a str, stream: &[u8], beyond: usize, choices: u32) -> Self {
         let mut memory = vec![GUARD; MEMORY + beyond];
-        let (ours, opened) = Decoder::new(stream, &mut memory);
+        let (ours, opened) = Decoder::new(stream, &mut memory, choices);
         let mut both = Both {
             tally,
             name,
@@ -90,6 +96,7 @@ impl<'a> Both<'a> {
             memory,
             output: vec![GUARD; OUTPUT + beyond],
             audio: Audio::new(stream.to_vec()),
+            rest: written(&fresh(choices)),
             heard: vec![GUARD; OUTPUT],
         };
         let told = by_01(stream, 0, NO_FORMAT).number;
@@ -100,7 +107,7 @@ impl<'a> Both<'a> {
 
     /// Takes up a state that is in range, with its memory: 2,048 values and the guard.
     pub fn resume(tally: &'a mut Tally, name: &'a str, stream: &[u8], ours: Decoder, memory: Vec<f32>) -> Self {
-        let [at, samplerate_index, bitrate_index, bound, pending, ring] = ours.places;
+        let [at, samplerate_index, bitrate_index, bound, pending, ring, _, _] = ours.places;
         let mode = ours.counts[0] as usize;
         let mut audio = Audio::new(Vec::new());
         let format = Format {
@@ -120,6 +127,7 @@ impl<'a> Both<'a> {
             output: vec![GUARD; OUTPUT + memory.len() - MEMORY],
             memory,
             audio,
+            rest: ours,
             heard: vec![GUARD; OUTPUT],
         }
     }
@@ -135,7 +143,7 @@ impl<'a> Both<'a> {
     /// Compares an answer and the state after it; `number` is the one that groups it.
     fn answered<T: PartialEq + std::fmt::Debug>(&mut self, call: &str, number: u32, ours: T, told: T, stream: &[u8]) {
         self.calls += 1;
-        let after = source_state(&self.audio);
+        let after = source_state(&self.audio, &self.rest);
         let (name, calls, state) = (self.name, self.calls, self.state());
         self.tally
             .same(&format!("{call} {number}"), (ours, state), (told, after), || {
@@ -170,6 +178,7 @@ impl<'a> Both<'a> {
             false => by_01(stream, self.audio.at(), NO_FORMAT).number,
         };
         let ours = number_of(self.ours.has_header(stream));
+        self.rest = written(&self.rest);
         self.audio.has_header();
         self.answered("has_header", told, ours, told, stream);
     }
@@ -179,6 +188,7 @@ impl<'a> Both<'a> {
         let reading = decode_by_01(stream, self.audio.at(), self.audio.format(), self.audio.pending());
         let answer = self.ours.decode(stream, &mut self.memory, &mut self.output);
         let ours = answer.map(|frame| (frame.start.to_bits(), frame.bits));
+        self.rest = written(&self.rest);
         let told = match self.audio.decode() {
             Some(samples) => {
                 self.heard = samples.interleaved;
@@ -196,6 +206,7 @@ impl<'a> Both<'a> {
             .ours
             .decode(stream, &mut self.memory[..memory], &mut self.output[..output]);
         let ours = answer.map(|frame| (frame.start.to_bits(), frame.bits));
+        self.rest = written(&self.rest);
         self.answered("listed: decode", number, ours, Err(Refusal(number)), stream);
         self.values(stream);
     }
@@ -203,6 +214,7 @@ impl<'a> Both<'a> {
     /// The same for has_header.
     pub fn header_refused(&mut self, stream: &[u8], number: u32) {
         let ours = number_of(self.ours.has_header(stream));
+        self.rest = written(&self.rest);
         self.answered("listed: has_header", number, ours, number, stream);
     }
 }

@@ -3,8 +3,8 @@
 use crate::both::{number_of, state_of, Both, GUARD};
 use crate::classes::{payload, Clips, STREAMS};
 use crate::files::files;
-use crate::firmware::{Decoder, MEMORY, OUTPUT, STREAM};
-use crate::saved;
+use crate::firmware::{place, Decoder, COUNTS, MEMORY, OUTPUT, PLACES, STREAM};
+use crate::saved::{self, fresh, written};
 use crate::seeded::Seeded;
 use crate::tally::Tally;
 use std::time::Instant;
@@ -26,10 +26,14 @@ fn to_the_end(both: &mut Both, stream: &[u8], s: &mut Seeded) {
 }
 
 fn whole(tally: &mut Tally, class: &str, name: &str, stream: &[u8], s: &mut Seeded) {
+    chosen(tally, class, name, stream, s, 0);
+}
+
+fn chosen(tally: &mut Tally, class: &str, name: &str, stream: &[u8], s: &mut Seeded, choices: u32) {
     tally.stream(class);
     let name = format!("{class}, {name}");
     let beyond = s.one_of(&[0, 1, 5, 64]);
-    to_the_end(&mut Both::open(tally, &name, stream, beyond), stream, s);
+    to_the_end(&mut Both::open(tally, &name, stream, beyond, choices), stream, s);
 }
 
 /// Another stream is lent between calls, from where the decoder stands.
@@ -41,7 +45,7 @@ fn changing(tally: &mut Tally, name: &str, clips: &Clips, s: &mut Seeded) {
         })
         .collect();
     let mut stream = &streams[0];
-    let both = &mut Both::open(tally, name, stream, 5);
+    let both = &mut Both::open(tally, name, stream, 5, 0);
     for _ in 0..3 + s.below(10) {
         stream = &streams[s.below(streams.len())];
         both.lend(stream);
@@ -63,19 +67,24 @@ fn under_a_state(clips: &Clips, s: &mut Seeded) -> Vec<u8> {
     make(s, clips)
 }
 
-/// A state that no opening need have made.
+/// A state that no opening need have made, and the same with any bits where nothing is read: both go on as the Rust does.
 fn resumed(tally: &mut Tally, name: &str, clips: &Clips, s: &mut Seeded) {
     let stream = under_a_state(clips, s);
     let state = saved::in_range(s, stream.len());
     let mut memory = saved::memory(s);
     memory.resize(MEMORY + s.one_of(&[0, 5]), GUARD);
-    let both = &mut Both::resume(tally, name, &stream, state, memory);
-    both.samplerate(&stream);
+    go_on(Both::resume(tally, name, &stream, state, memory.clone()), &stream, s);
+    let state = saved::littered(s, state);
+    go_on(Both::resume(tally, name, &stream, state, memory), &stream, s);
+}
+
+fn go_on(mut both: Both, stream: &[u8], s: &mut Seeded) {
+    both.samplerate(stream);
     if s.below(2) == 0 {
-        both.has_header(&stream);
+        both.has_header(stream);
     }
     for _ in 0..1 + s.below(3) {
-        both.decode(&stream);
+        both.decode(stream);
     }
 }
 
@@ -85,20 +94,27 @@ fn spoilt(tally: &mut Tally, name: &str, clips: &Clips, s: &mut Seeded) {
     let mut d = saved::in_range(s, stream.len());
     let (field, spoil) = saved::SPOILT[s.below(saved::SPOILT.len())];
     spoil(s, &mut d);
-    let before = d;
-    let (memory, output) = (saved::memory(s), vec![GUARD; OUTPUT]);
-    let (mut lent_memory, mut lent_output) = (memory.clone(), output.clone());
+    let memory = saved::memory(s);
+    for mut d in [d, saved::littered(s, d)] {
+        refused_by_all(tally, &format!("{name}, {field}, {d:?}"), &mut d, &stream, &memory);
+    }
+}
+
+/// The numbers that nothing reads are written anew.
+fn refused_by_all(tally: &mut Tally, name: &str, d: &mut Decoder, stream: &[u8], memory: &[f32]) {
+    let (before, output) = (written(d), vec![GUARD; OUTPUT]);
+    let (mut lent_memory, mut lent_output) = (memory.to_vec(), output.clone());
     let numbers = [
         number_of(d.samplerate()),
-        number_of(d.has_header(&stream)),
-        number_of(d.decode(&stream, &mut lent_memory, &mut lent_output)),
+        number_of(d.has_header(stream)),
+        number_of(d.decode(stream, &mut lent_memory, &mut lent_output)),
     ];
-    let left = (state_of(&d), bits(&lent_memory) == bits(&memory), lent_output == output);
+    let left = (state_of(d), bits(&lent_memory) == bits(memory), lent_output == output);
     tally.same(
         "listed: 10 from all three",
         (numbers, left),
         ([10; 3], (state_of(&before), true, true)),
-        || format!("{name}, {field}, {before:?}"),
+        || name.to_string(),
     );
 }
 
@@ -113,12 +129,11 @@ fn little_room(tally: &mut Tally, name: &str, clips: &Clips, s: &mut Seeded) {
     let less = |s: &mut Seeded, whole: usize| s.one_of(&[0, 1, whole / 2, whole - 1]);
     let memory = saved::memory(s);
     let mut lent = memory.clone();
-    let (d, opened) = Decoder::new(&stream, &mut lent[..less(s, MEMORY)]);
-    let fresh = ([0, 3, 0, 0, 0, 0], [0, 0], 0);
+    let (d, opened) = Decoder::new(&stream, &mut lent[..less(s, MEMORY)], 0);
     tally.same(
         "listed: opening 9",
         (number_of(opened), state_of(&d), bits(&lent) == bits(&memory)),
-        (9, fresh, true),
+        (9, state_of(&fresh(0)), true),
         || name.to_string(),
     );
     let both = &mut Both::resume(tally, name, &stream, d, lent);
@@ -150,6 +165,21 @@ fn seeded(tally: &mut Tally, seed: u64, clips: &Clips) {
     let (class, call) = CALLED[turn - STREAMS.len()];
     tally.stream(class);
     call(tally, &format!("{class}, seed {seed}"), clips, s);
+}
+
+/// No choice has an effect yet: with each of them, and any bits above, a seeded stream gives what the Rust gives.
+fn every_choice(tally: &mut Tally, count: u64) {
+    let clips = Clips::load();
+    for seed in 0..count {
+        let s = &mut Seeded::new(seed);
+        let (_, make) = STREAMS[seed as usize % STREAMS.len()];
+        let stream = make(s, &clips);
+        for choices in 0..32 {
+            let name = format!("seed {seed}, choices {choices}");
+            let above = s.below(1 << 27) as u32;
+            chosen(tally, "every choice", &name, &stream, s, above << 5 | choices);
+        }
+    }
 }
 
 fn published(tally: &mut Tally, class: &str, folder: &str) {
@@ -220,7 +250,7 @@ fn longest(tally: &mut Tally) {
     }
     tally.stream("16,777,216 bytes");
     let ones = vec![0xFF; STREAM];
-    let both = &mut Both::open(tally, "bytes FF", &ones, 0);
+    let both = &mut Both::open(tally, "bytes FF", &ones, 0, 0);
     (0..200).for_each(|_| both.decode(&ones));
     too_long(tally, frame);
 }
@@ -231,16 +261,15 @@ fn too_long(tally: &mut Tally, frame: Vec<u8>) {
     let mut long = frame.clone();
     long.resize(STREAM + 1, 0);
     let mut memory = vec![GUARD; MEMORY];
-    let (mut d, opened) = Decoder::new(&long, &mut memory);
+    let (mut d, opened) = Decoder::new(&long, &mut memory, 0);
     let headed = number_of(d.has_header(&long));
-    let fresh = ([0, 3, 0, 0, 0, 0], [0, 0], 0);
     tally.same(
         "listed: opening 8",
         (number_of(opened), headed, state_of(&d), memory == vec![GUARD; MEMORY]),
-        (8, 8, fresh, true),
+        (8, 8, state_of(&fresh(0)), true),
         || "opening".to_string(),
     );
-    let both = &mut Both::open(tally, "16,777,217 bytes among the calls", &frame, 5);
+    let both = &mut Both::open(tally, "16,777,217 bytes among the calls", &frame, 5, 0);
     for (memory, output) in [(MEMORY, OUTPUT), (0, OUTPUT), (MEMORY, 0)] {
         both.refused(&long, 8, memory, output);
     }
@@ -253,7 +282,8 @@ fn too_long(tally: &mut Tally, frame: Vec<u8>) {
 /// decode and samplerate, each with what stands beside it.
 fn beside(stream: &[u8], room: usize, ring: usize) -> ((u32, u64, usize), (u32, u32)) {
     use crate::firmware::boundary::{tag_decode, tag_samplerate};
-    let (mut places, mut counts, mut time) = ([0, 0, 0, 0, 0, ring], [0; 2], [0.0]);
+    let (mut places, mut counts, mut time) = ([0; PLACES], [0; COUNTS], [0.0]);
+    places[place::RING] = ring;
     let (mut memory, mut output) = ([GUARD; MEMORY], [GUARD; OUTPUT]);
     let (mut rate, mut start, mut bits) = ([7], [-1.0], [7]);
     let (data, length) = (stream.as_ptr(), stream.len());
@@ -322,7 +352,9 @@ pub fn compare(tally: &mut Tally, words: &[String]) {
             every_cut(tally);
             longest(tally);
             order(tally);
-            run(tally, 0, number(0).unwrap_or(300_000));
+            let count = number(0).unwrap_or(300_000);
+            every_choice(tally, count / 32);
+            run(tally, 0, count);
         }
     }
 }

@@ -20,7 +20,7 @@ fn a_frame(stream: &[u8], rounds: usize) -> f64 {
 fn search(length: usize) -> f64 {
     let stream = vec![0x31; length];
     let mut memory = [0.0; MEMORY];
-    let once = |_| timed(|| Decoder::new(&stream, &mut memory)).0 / 1e3;
+    let once = |_| timed(|| Decoder::new(&stream, &mut memory, 0)).0 / 1e3;
     median((0..5).map(once).collect())
 }
 
@@ -30,7 +30,7 @@ fn calls(length: usize) -> (usize, f64) {
     let stream = vec![0xFF; length];
     let (mut memory, mut output) = ([0.0; MEMORY], [0.0; OUTPUT]);
     let (time, count) = timed(|| {
-        let (mut d, _) = Decoder::new(&stream, &mut memory);
+        let (mut d, _) = Decoder::new(&stream, &mut memory, 0);
         let mut count = 1;
         while !matches!(d.decode(&stream, &mut memory, &mut output), Err(refusal) if refusal.ends()) {
             count += 1;

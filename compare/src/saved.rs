@@ -1,6 +1,7 @@
-//! Saved states: every field drawn within 01's ranges, and the same with one field out of its range.
+//! Saved states: every field drawn within 01's ranges, the same with one field out of its range, and both with any bits
+//! where nothing is read.
 
-use crate::firmware::{Decoder, MEMORY};
+use crate::firmware::{count, place, Decoder, COUNTS, MEMORY, PLACES};
 use crate::seeded::Seeded;
 
 /// 01's farthest position, in bits.
@@ -12,6 +13,42 @@ fn time(frames: u32, code: usize) -> f64 {
         3 => 0.0,
         _ => (frames as u64 * 1152) as f64 / [44_100.0, 48_000.0, 32_000.0][code],
     }
+}
+
+/// A state as it was saved when there were six places and two counts, widened with zeros.
+fn widened(old_places: [usize; 6], old_counts: [u32; 2], time: f64) -> Decoder {
+    let (mut places, mut counts) = ([0; PLACES], [0; COUNTS]);
+    places[..6].copy_from_slice(&old_places);
+    counts[..2].copy_from_slice(&old_counts);
+    Decoder {
+        places,
+        counts,
+        time: [time],
+    }
+}
+
+/// What an opening that is refused leaves: no header, nothing decoded, and of the choices the five that there are.
+pub fn fresh(choices: u32) -> Decoder {
+    let mut d = widened([0, 3, 0, 0, 0, 0], [0, 0], 0.0);
+    d.counts[count::CHOICES] = choices % 32;
+    d
+}
+
+/// Any bits in what nothing reads: the last two places, the counts behind the choices, and the choices' bits above five, which stay as they are.
+pub fn littered(s: &mut Seeded, mut d: Decoder) -> Decoder {
+    let mut any = || s.below(1 << 32) << 32 | s.below(1 << 32);
+    d.places[place::FRAME_END..].fill_with(&mut any);
+    d.counts[count::CHOICES] |= (any() as u32) << 5;
+    d.counts[count::CHOICES + 1..].fill_with(|| any() as u32);
+    d
+}
+
+/// The same numbers as a call writes them.
+pub fn written(d: &Decoder) -> Decoder {
+    let mut d = *d;
+    d.places[place::FRAME_END..].fill(0);
+    d.counts[count::CHOICES + 1..].fill(0);
+    d
 }
 
 /// A state in range, for a stream of that many bytes: mostly one that stands in the stream, on a byte or off it.
@@ -42,11 +79,8 @@ pub fn in_range(s: &mut Seeded, length: usize) -> Decoder {
     };
     let bound = if mode == 3 { 0 } else { s.below(33) };
     let pending = if known { pending } else { 0 };
-    Decoder {
-        places: [at, code, s.below(14), bound, pending, 64 * s.below(16)],
-        counts: [mode as u32, frames],
-        time: [time(frames, code)],
-    }
+    let places = [at, code, s.below(14), bound, pending, 64 * s.below(16)];
+    widened(places, [mode as u32, frames], time(frames, code))
 }
 
 /// A memory of numbers, of zeros of both signs, of sizes far apart, or of anything that an f32 can be.

@@ -13,7 +13,7 @@ mod boundary {
             answer: *mut [usize; 2],
         ) -> u32;
         #[cfg(layer = "bench")]
-        pub fn tag_read_run(stream: *const u8, length: usize, at: usize, width: usize, times: usize) -> u64;
+        pub fn probe_read_run(stream: *const u8, length: usize, at: usize, width: usize, times: usize) -> u64;
         #[cfg(layer = "header")]
         pub fn reading_header(
             stream: *const u8,
@@ -72,7 +72,7 @@ pub fn reader(call: u32, stream: &[u8], at: usize, argument: usize) -> (u32, [us
 /// The sum of `times` fields of `width` bits, read one after the other from bit `at`.
 #[cfg(layer = "bench")]
 pub fn read_run(stream: &[u8], at: usize, width: usize, times: usize) -> u64 {
-    unsafe { boundary::tag_read_run(stream.as_ptr(), stream.len(), at, width, times) }
+    unsafe { boundary::probe_read_run(stream.as_ptr(), stream.len(), at, width, times) }
 }
 
 /// The number, and the answer: the bit position afterwards, the format (four), the pending data size.
