@@ -11,7 +11,7 @@ use Rattle.tables.specs.Standard.{levelsOf}
 use Rattle.samples.specs.Sample.{scaleOf, adjOf, centredBy, scaledBy, sampleOf}
 use Rattle.samples.specs.Bounds.{mostOf, Range, centred-small}
 use Rattle.samples.specs.declared.Three.{Three}
-use Rattle.side.specs.Bands.{three}
+use Rattle.ground.specs.Stores.{three}
 
 -- what a code asks for, to be made a sample: `samples::sample` requires it
 pub asks : {a s : ℕ} (q code factor : ℕ) → a ≡ adjOf (levelsOf q) → s ≡ scaleOf (levelsOf q) → Range q → code ≤ mostOf q → factor ≤ 33554432 →

@@ -11,7 +11,8 @@ use Rattle.grammar.specs.Reads.{Reads, done, ask, _>>=_}
 use Rattle.tables.specs.Standard.{levelsOf, codeBitsOf, groupedOf}
 use Rattle.samples.specs.Sample.{sampleOf, digitsOf}
 use Rattle.samples.specs.declared.Three.{Three}
-use Rattle.side.specs.Bands.{bands, pairOf, allocatedOf, three}
+use Rattle.ground.specs.Stores.{three}
+use Rattle.side.specs.Bands.{bands, pairOf, allocatedOf}
 use Rattle.side.specs.Side.{Side, sideOf}
 
 -- three codes, one for each slot

@@ -5,13 +5,13 @@ use mathlib.Core.Path.{_≡_, refl, sym, ap, _∙_}
 use mathlib.Core.Bool.{Bool}
 use mathlib.Core.List.{List, [], _∷_, _++_}
 use native.Mathlib.Omega.{arith}
-use native.Mathlib.Decide.{ℕ-discrete}
 use lib.IntN.{ℤ, pos}
 use lib.ListN.{length, getD, set, replicate, length-set, length-replicate, getD-replicate}
-use lib.Seq.{getD-set-same, getD-set-other}
+use lib.Seq.{getD-set-other}
 use borrow.Author.Tests.{le-ltb}
 use Rattle.grammar.specs.Values.{Always, always-bind, anything, always-anything}
-use Rattle.side.specs.Bands.{three, pairOf}
+use Rattle.ground.specs.Stores.{three, length-three, three-either}
+use Rattle.side.specs.Bands.{pairOf}
 use Rattle.side.specs.Side.{Side, sideOf}
 use Rattle.side.specs.Values.{bands-always, allocated-always}
 use Rattle.codes.specs.Frame.{codesOf, threeSamplesOf as threeOf, placeOf, copied, sampleBandOf, granuleOf, granulesOf, frameOf}
@@ -21,32 +21,6 @@ use Rattle.codes.specs.Values.{All}
 pub record Twins (apart : ℕ) (xs : List ℤ) : Type 0 where
   pub many : length xs ≡ 192
   pub same : (i : ℕ) → i < 192 → i % 64 < 32 → (i % 64 ≡ apart → ⊥) → getD xs i (pos 0) ≡ getD xs (i + 32) (pos 0)
-
--- a place of a list with three values put in: one of them, or as it was
-set-either : (xs : List ℤ) (place i : ℕ) (v w : ℤ) → place < length xs → (i ≡ place → v ≡ w) → ((i ≡ place → ⊥) → getD xs i (pos 0) ≡ w)
-    → getD (set xs place v) i (pos 0) ≡ w
-set-either xs place i v w l new old = go (ℕ-discrete i place)
-  where
-    go : Dec (i ≡ place) → getD (set xs place v) i (pos 0) ≡ w
-    go (yes e) = rw e (getD-set-same xs place v (pos 0) l) ∙ new e
-    go (no e) = getD-set-other xs place i v (pos 0) e ∙ old e
-
-module _ (place : ℕ) (x y z : ℤ) (xs : List ℤ) where
-  abbrev one : List ℤ
-  one = set xs place x
-
-  abbrev two : List ℤ
-  two = set one (place + 64) y
-
-  length-three : length (three place x y z xs) ≡ length xs
-  length-three = length-set two (place + 128) z ∙ length-set one (place + 64) y ∙ length-set xs place x
-
-  three-either : place + 128 < length xs → (i : ℕ) (w : ℤ) → (i ≡ place → x ≡ w) → (i ≡ place + 64 → y ≡ w) → (i ≡ place + 128 → z ≡ w)
-      → ((i ≡ place → ⊥) → (i ≡ place + 64 → ⊥) → (i ≡ place + 128 → ⊥) → getD xs i (pos 0) ≡ w) → getD (three place x y z xs) i (pos 0) ≡ w
-  three-either room i w a b c old =
-      set-either two (place + 128) i z w (omega (arith, length-set one (place + 64) y, length-set xs place x)) c
-      (λ k. set-either one (place + 64) i y w (omega (arith, length-set xs place x)) b
-      (λ j. set-either xs place i x w (omega arith) a (λ h. old h j k)))
 
 module _ (sb : ℕ) (low : sb < 32) where
   set-twins : (xs : List ℤ) (place : ℕ) (v : ℤ) → place % 32 ≡ sb → Twins sb xs → Twins sb (set xs place v)
@@ -76,12 +50,12 @@ module _ (sb : ℕ) (low : sb < 32) where
   unfolding copied
   copied-twins xs t =
       record {
-        many = length-three (sb + 32) _ _ _ xs ∙ t .many;
+        many = length-three (pos 0) (sb + 32) _ _ _ xs ∙ t .many;
         same = λ i l left _.
-            three-either (sb + 32) _ _ _ xs room i (getD xs i (pos 0))
+            three-either (pos 0) (sb + 32) _ _ _ xs room i (getD xs i (pos 0))
             (λ e. absurd (omega arith)) (λ e. absurd (omega arith)) (λ e. absurd (omega arith)) (λ _ _ _. refl)
             ∙ sym
-            (three-either (sb + 32) _ _ _ xs room (i + 32) (getD xs i (pos 0))
+            (three-either (pos 0) (sb + 32) _ _ _ xs room (i + 32) (getD xs i (pos 0))
             (λ e. at sb i (omega arith)) (λ e. at (sb + 64) i (omega arith)) (λ e. at (sb + 128) i (omega arith))
             (λ a b c. sym (t .same i l left (λ e. omega arith))));
       }

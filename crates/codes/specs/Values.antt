@@ -18,7 +18,7 @@ use Rattle.tables.specs.Standard.{levelsOf, codeBitsOf, groupedOf}
 use Rattle.tables.specs.Laws.{sized}
 use Rattle.samples.specs.Bounds.{mostOf, quantiser-range, sample-small}
 use Rattle.samples.specs.declared.Three.{Three}
-use Rattle.side.specs.Bands.{three}
+use Rattle.ground.specs.Stores.{three}
 use Rattle.side.specs.Side.{Side, sideOf}
 use Rattle.side.specs.Values.{bands-always, pair-always, allocated-always, SideInRange, side-ranged}
 use Rattle.codes.specs.Frame.{codesOf, singlesOf, threeSamplesOf, placeOf, copied, sampleBandOf, granuleOf, granulesOf, frameOf}

@@ -4,7 +4,7 @@ use samples::Three;
 ghost use mathlib.Core.Path.{_≡_};
 ghost use Prim.Native.Nat.{_≤_, _<_};
 ghost use Rattle.grammar.specs.Reads.{run, ran};
-ghost use Rattle.side.specs.Bands.{three};
+ghost use Rattle.ground.specs.Stores.{three};
 ghost use Rattle.side.specs.Below.{Below, sideWith};
 ghost use Rattle.codes.specs.Three.{cutInThree};
 ghost use Rattle.codes.specs.Frame.{singlesOf, codesOf, threeSamplesOf, placeOf, copied, sampleBandOf, samplesFrom};

@@ -6,3 +6,4 @@ pub mod Entries
 pub mod Magnitude
 pub mod Rows
 pub mod Floats
+pub mod Stores

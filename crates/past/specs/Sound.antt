@@ -20,7 +20,7 @@ use Rattle.frame.specs.Frame.{cutFormat, granulesAt}
 use Rattle.state.specs.State.{fresh, inRange}
 use Rattle.verdict.specs.Verdict.{readyOf}
 use Rattle.audio.specs.Calls.{alignedOf, answering, afterOf, framedOf, decodeOf, openOf, hasHeaderOf}
-use Rattle.state.specs.StateLaws.{Ranged, ranged, in-range, on-time, fresh-ranged}
+use Rattle.state.specs.StateLaws.{Ranged, ranged, in-range, fresh-ranged, framed-to-ranged}
 use Rattle.audio.specs.CallsLaws.{Ready, goes, ended, by-asking, by-opening}
 use Rattle.verdict.specs.VerdictLaws.{Sound, Kept, attempt-kept, verdict-holds, verdict-kept}
 use Rattle.past.specs.Calls.{short-keeps}
@@ -57,21 +57,9 @@ module _ (s : List ℕ) (a : Audio) (y : Ready s a) (w : Ranged a) (some : a .pe
   framed-ranged =
       let m = frame-moves in
       let l = y .short in
-      record {
-        near = omega arith;
-        few = omega arith;
-        samplerate = w .samplerate;
-        bitrate = w .bitrate;
-        mode = w .mode;
-        bound = omega arith;
-        mono = λ h. let m = w .mono h in omega arith;
-        place = place-after (w .place) 36;
-        large = λ some. absurd (some refl);
-        small = omega arith;
-        known = λ _. refl;
-        first = λ h. absurd (let f = y .fit .samplerate in omega arith);
-        time = on-time (a .frames + 1) (a .format .samplerate);
-      }
+      let few = w .few in
+      framed-to-ranged a _ _ _ w (omega arith) (omega arith) (y .fit .samplerate) (record { bitrate = refl; samplerate = refl; mode = refl }) (omega arith)
+      (place-after (w .place) 36)
 
   framed-sound : Sound a → Sound (framedOf s a .state)
   unfolding framedOf afterOf cutFormat

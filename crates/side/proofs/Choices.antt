@@ -9,7 +9,7 @@ use Rattle.buffer.specs.declared.Field.{Field}
 use Rattle.grammar.specs.Reads.{ran, run}
 use Rattle.grammar.specs.Run.{fieldThen, run-done}
 use Rattle.samples.specs.Sample.{factorOf}
-use Rattle.side.specs.Bands.{three}
+use Rattle.ground.specs.Stores.{three}
 use Rattle.side.specs.Side.{factorsOf}
 
 module _ (s : List ℕ) (r : Reader) (place : ℕ) (xs ys : List ℕ) (x : Field) (a : ℕ) (read-x : x ≡ fieldOf s r 6) (is-a : a ≡ factorOf (x .value)) where

@@ -5,7 +5,7 @@ use Prim.Native.Nat.{ℕ, zero, suc, _+_}
 use mathlib.Core.Bool.{Bool, cond, not}
 use mathlib.Core.List.{List}
 use lib.Dec.{eqb}
-use lib.ListN.{getD, set}
+use lib.ListN.{getD}
 use Rattle.grammar.specs.Reads.{Reads, done, _>>=_}
 
 -- the subbands below n, one after the other
@@ -23,7 +23,3 @@ channelsOf mono one sb = pairOf (not mono) (one sb) (one (sb + 32)) (λ xs. xs)
 
 abbrev pub allocatedOf : {A : Type 0} → List ℕ → (ℕ → A → Reads A) → ℕ → A → Reads A
 allocatedOf quant one place xs = cond (eqb (getD quant place 0) 0) (done xs) (one place xs)
-
--- three values of a place, one for each part of the frame or each slot of a granule: 64 apart, so that a slot's lie side by side
-abbrev pub three : {A : Type 0} → ℕ → A → A → A → List A → List A
-three place x y z xs = set (set (set xs place x) (place + 64) y) (place + 128) z

@@ -10,7 +10,8 @@ use lib.ListN.{getD, set, replicate}
 use Rattle.grammar.specs.Reads.{Reads, done, ask, _>>=_}
 use Rattle.tables.specs.Source.{widthOf, quantiserOf}
 use Rattle.samples.specs.Sample.{factorOf}
-use Rattle.side.specs.Bands.{bands, pairOf, channelsOf, allocatedOf, three}
+use Rattle.ground.specs.Stores.{three}
+use Rattle.side.specs.Bands.{bands, pairOf, channelsOf, allocatedOf}
 
 -- "bound is cut down to it": to the limit
 abbrev pub cutOf : ℕ → ℕ → ℕ

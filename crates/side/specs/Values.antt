@@ -16,7 +16,8 @@ use Rattle.tables.specs.Laws.{quantiser<18}
 use Rattle.samples.specs.Sample.{factorOf}
 use Rattle.samples.specs.Bounds.{factor-small}
 use Rattle.side.specs.Below.{Below}
-use Rattle.side.specs.Bands.{bands, pairOf, channelsOf, allocatedOf, three}
+use Rattle.ground.specs.Stores.{three}
+use Rattle.side.specs.Bands.{bands, pairOf, channelsOf, allocatedOf}
 use Rattle.side.specs.Side.{allocationOf, allocationBandOf, selectorsOf, factorsOf, placeFactorsOf, Side, sideOf}
 
 -- what each subband keeps, all of them keep

@@ -4,7 +4,8 @@ ghost use mathlib.Core.Path.{_≡_};
 ghost use Prim.Native.Nat.{_≤_, _<_};
 ghost use Rattle.grammar.specs.Reads.{run, ran};
 ghost use Rattle.tables.specs.Source.{step4};
-ghost use Rattle.side.specs.Bands.{three, channelsOf, allocatedOf};
+ghost use Rattle.ground.specs.Stores.{three};
+ghost use Rattle.side.specs.Bands.{channelsOf, allocatedOf};
 ghost use Rattle.side.specs.Side.{cutOf, allocationOf, allocationBandOf, allocationsOf, selectorOf, selectorsOf, factorsOf, placeFactorsOf, scaleFactorsOf, sideOf};
 ghost use Rattle.side.specs.Below.{sideWith};
 

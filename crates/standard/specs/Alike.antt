@@ -24,7 +24,8 @@ use Rattle.tables.specs.Source.{step4, sourceRowOf, quantiserOf}
 use Rattle.tables.specs.Differences.{numberOf, differsAt, same-width, differs-only}
 use Rattle.tables.specs.Laws.{width≤4, quantiser<18, sblimit≤30}
 use Rattle.samples.specs.Sample.{factorOf}
-use Rattle.side.specs.Bands.{bands, channelsOf, allocatedOf, three}
+use Rattle.ground.specs.Stores.{three}
+use Rattle.side.specs.Bands.{bands, channelsOf, allocatedOf}
 use Rattle.side.specs.Side.{Side, allocationOf, allocationBandOf, allocationsOf, selectorOf, factorsOf, sideOf}
 use Rattle.codes.specs.Frame.{singlesOf, codesOf, threeSamplesOf, placeOf, copied, sampleBandOf, granuleOf, granulesOf, frameOf}
 use Rattle.standard.specs.Related.{Related, related-run, related-cond, related-bind, related-assoc, related-done, related-made, related-bands, related-pair, Twin, twin-replicate, twin-set}

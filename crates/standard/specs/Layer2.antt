@@ -9,7 +9,8 @@ use lib.Dec.{eqb, ltb}
 use lib.ListN.{getD, set, replicate}
 use Rattle.grammar.specs.Reads.{Reads, done, ask, _>>=_}
 use Rattle.tables.specs.Standard.{Table, rowOf, stepsOf, sblimit, Class, class, classes}
-use Rattle.side.specs.Bands.{bands, pairOf, channelsOf, allocatedOf, three}
+use Rattle.ground.specs.Stores.{three}
+use Rattle.side.specs.Bands.{bands, pairOf, channelsOf, allocatedOf}
 
 -- allocation[ch][sb], of the nbal bits that Table B.2 says; from the bound up allocation[1][sb] = allocation[0][sb]
 unfoldable pub allocation : Table → ℕ → ℕ → List ℕ → Reads (List ℕ)

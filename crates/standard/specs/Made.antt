@@ -10,7 +10,7 @@ use lib.ListN.{getD, replicate}
 use Rattle.tables.specs.Standard.{Table, stepsOf, sblimit}
 use Rattle.samples.specs.Sample.{sampleOf, digitsOf, factorOf}
 use Rattle.samples.specs.declared.Three.{Three}
-use Rattle.side.specs.Bands.{three}
+use Rattle.ground.specs.Stores.{three}
 use Rattle.codes.specs.Frame.{copied}
 use Rattle.standard.specs.Layer2.{AudioFields, Code, grouped, single, none}
 

@@ -1,19 +1,23 @@
 -- What a state in range holds, both ways. From 01, "Numbers a call can give" (State in range). Assumes nothing.
-use Prim.Native.Nat.{ℕ, _*_, _≤_}
-use mathlib.Core.Path.{_≡_, refl, sym, subst, _∙_}
+use Prim.Native.Nat.{ℕ, zero, suc, _+_, _*_, _≤_, _<_}
+use mathlib.Core.Path.{_≡_, refl, sym, ap, subst, _∙_}
 use mathlib.Core.Bool.{Bool, true, false, not, _&&_, _||_}
 use native.Mathlib.Omega.{arith}
+use native.Mathlib.Decide.{ℕ-discrete}
 use lib.Dec.{T, eqb, leb}
-use lib.Ieee.{binary64, toBits}
+use lib.Ieee.{binary64, toBits, div, ofInt, round, units, odd, size}
 use borrow.Author.Tests.{ltb-true, leb-true, eqb-true, eqb-false, eq-eqb, lt-ltb, le-leb}
 use Rattle.ground.specs.Tests.{by-test, both, unless, either}
 use Rattle.buffer.specs.Bits.{farthestBit}
 use Rattle.header.specs.Header.{leastData, mostData}
+use Rattle.buffer.specs.declared.Reader.{Reader}
+use Rattle.header.specs.Accepted.{SameFormat, Good}
+use Rattle.header.specs.declared.Format.{Format}
 use Rattle.header.specs.declared.Reading.{Reading}
-use Rattle.clock.specs.Clock.{startTimeOf, onTime}
+use Rattle.clock.specs.Clock.{startTimeOf, sameBits, onTime}
 use Rattle.clock.specs.Laws.{start-real, like-bits}
 use Rattle.window.specs.Output.{Place}
-use Rattle.state.specs.State.{fresh, numbersOk, inRange}
+use Rattle.state.specs.State.{fresh, numbersOk, inRange, standsAt, pends, framedTo}
 use Rattle.state.specs.declared.Audio.{Audio}
 
 pub record Ranged (a : Audio) : Type 0 where
@@ -116,4 +120,86 @@ fresh-ranged c =
       known = λ _. refl;
       first = λ _. refl;
       time = on-time 0 3;
+    }
+
+-- ---- and what a call changes of it stays in range: a law for each way
+
+module _ (a : Audio) (r : Reader) (w : Ranged a) (near : r .at .0 ≤ farthestBit) (few : a .frames * 16 ≤ r .at .0) where
+  -- the position moves, and that is all
+  pub stands-ranged : Ranged (standsAt r a)
+  stands-ranged =
+      record {
+        near = near;
+        few = few;
+        samplerate = w .samplerate;
+        bitrate = w .bitrate;
+        mode = w .mode;
+        bound = w .bound;
+        mono = w .mono;
+        place = w .place;
+        large = w .large;
+        small = w .small;
+        known = w .known;
+        first = w .first;
+        time = w .time;
+      }
+
+-- before the first frame it is 0 s at every rate
+first-time : (samplerate : ℕ) → samplerate < 3 → startTimeOf 0 3 ≡ startTimeOf 0 samplerate
+unfolding startTimeOf div ofInt round units odd size
+first-time zero l = refl
+first-time (suc zero) l = refl
+first-time (suc (suc zero)) l = refl
+first-time (suc (suc (suc k))) l = absurd (let f : suc (suc (suc k)) < 3 = l in omega arith)
+
+-- a header's sample rate is the old one, or there was none
+pub same-start : (a : Audio) → Ranged a → (f : Format) (n : ℕ) → Good (a .format) f n
+    → startTimeOf (a .frames) (a .format .samplerate) ≡ startTimeOf (a .frames) (f .samplerate)
+same-start a w f n g = go (ℕ-discrete (a .format .samplerate) 3)
+  where
+    go : Dec (a .format .samplerate ≡ 3) → startTimeOf (a .frames) (a .format .samplerate) ≡ startTimeOf (a .frames) (f .samplerate)
+    go (yes e) = rw (e, w .first e) (first-time (f .samplerate) (g .samplerate))
+    go (no e) = ap (startTimeOf (a .frames)) (sym (g .same e .samplerate))
+
+-- a header accepted
+pub pends-ranged : (a : Audio) (r : Reader) → Ranged a → r .at .0 ≤ farthestBit → a .frames * 16 ≤ r .at .0
+    → (f : Format) (n : ℕ) → Good (a .format) f n → Ranged (pends r f n a)
+unfolding onTime
+pends-ranged a r w near few f n g =
+    record {
+      near = near;
+      few = few;
+      samplerate = omega arith;
+      bitrate = omega arith;
+      mode = omega arith;
+      bound = g .bound;
+      mono = g .mono;
+      place = w .place;
+      large = λ _. g .least;
+      small = g .most;
+      known = λ e. absurd (let l = g .samplerate in omega arith);
+      first = λ e. absurd (let l = g .samplerate in omega arith);
+      time = ap (sameBits (a .time)) (sym (same-start a w f n g)) ∙ w .time;
+    }
+
+-- a frame decoded: its format is the state's, but that the bound may be smaller
+pub framed-to-ranged : (a : Audio) (r : Reader) (f : Format) (ring : ℕ) → Ranged a → r .at .0 ≤ farthestBit → a .frames * 16 + 16 ≤ r .at .0
+    → a .format .samplerate < 3 → SameFormat (a .format) f → f .bound ≤ a .format .bound → Place ring → Ranged (framedTo r f ring a)
+framed-to-ranged a r f ring w near few known same cut place =
+    let rate = same .samplerate in let index = same .bitrate in let mode = same .mode in
+    let w1 = w .samplerate in let w2 = w .bitrate in let w3 = w .mode in let w4 = w .bound in
+    record {
+      near = near;
+      few = omega arith;
+      samplerate = omega arith;
+      bitrate = omega arith;
+      mode = omega arith;
+      bound = omega arith;
+      mono = λ h. let m = w .mono (sym mode ∙ h) in omega arith;
+      place = place;
+      large = λ some. absurd (some refl);
+      small = omega arith;
+      known = λ _. refl;
+      first = λ h. absurd (omega arith);
+      time = rw rate (on-time (a .frames + 1) (a .format .samplerate));
     }

@@ -1,14 +1,12 @@
 -- The verdict walked once: each test with what it found, and the state that it leaves. Whoever asks what comes before a frame cites
 -- `verdict-holds` or `verdict-only`. From 01, "Numbers a call can give". Assumes nothing.
-use Prim.Native.Nat.{ℕ, zero, suc, _*_, _≤_, _<_}
+use Prim.Native.Nat.{ℕ, _*_, _≤_, _<_}
 use mathlib.Core.Path.{_≡_, refl, sym, ap, subst, _∙_}
 use mathlib.Core.Bool.{Bool, true, false, cond}
 use mathlib.Core.List.{List}
 use mathlib.Core.Logic.{_⊎_, inl, inr}
 use native.Mathlib.Omega.{arith}
-use native.Mathlib.Decide.{ℕ-discrete}
 use lib.Dec.{eqb, ltb}
-use lib.Ieee.{div, ofInt, round, units, odd, size}
 use lib.ListN.{length}
 use borrow.Author.Tests.{lt-ltb, le-ltb, eq-eqb, ne-eqb, eqb-true, eqb-false, ltb-true, ltb-false}
 use Rattle.ground.specs.Tests.{by-test}
@@ -22,9 +20,9 @@ use Rattle.header.specs.Moves.{attempt-moves, few-bits-stay}
 use Rattle.header.specs.declared.Format.{Format}
 use Rattle.header.specs.declared.Header.{Header}
 use Rattle.header.specs.declared.Header.the-variants.{Accepted, Refused as HeaderRefused}
-use Rattle.clock.specs.Clock.{startTimeOf, sameBits, onTime}
+use Rattle.clock.specs.Clock.{startTimeOf}
 use Rattle.state.specs.State.{inRange}
-use Rattle.state.specs.StateLaws.{Ranged, ranged}
+use Rattle.state.specs.StateLaws.{Ranged, ranged, stands-ranged, pends-ranged, same-start}
 use Rattle.state.specs.declared.Audio.{Audio}
 use Rattle.verdict.specs.Verdict.{asked, seeking, tried, attemptOf, headedOf, enoughOf, goesOn, pended, atOnceOf, unlessAtOnce, readyOf}
 use Rattle.verdict.specs.declared.Heading.{Heading}
@@ -65,69 +63,18 @@ pub record Kept (a : Audio) (x : Asked) : Type 0 where
 pub refused-kept : {a : Audio} (n : ℕ) (b : Audio) → Ranged b → (Sound a → Sound b) → b .frames ≡ a .frames → Kept a (asked (Refused n) b)
 refused-kept n b r w f = record { ranged = r; sound = w; frames = f; some = λ e. absurd (let z : _≡_ {A = ℕ} 0 1 = cc in omega arith) }
 
--- before the first frame it is 0 s at every rate
-first-time : (samplerate : ℕ) → samplerate < 3 → startTimeOf 0 3 ≡ startTimeOf 0 samplerate
-unfolding startTimeOf div ofInt round units odd size
-first-time zero l = refl
-first-time (suc zero) l = refl
-first-time (suc (suc zero)) l = refl
-first-time (suc (suc (suc k))) l = absurd (let f : suc (suc (suc k)) < 3 = l in omega arith)
-
 module _ (a : Audio) (r : Reader) (w : Ranged a) (near : r .at .0 ≤ farthestBit) (few : a .frames * 16 ≤ r .at .0) where
-  -- refused: the position moves, and that is all
   moved : (n : ℕ) → Kept a (seeking a r (HeaderRefused n))
-  moved n =
-      refused-kept n _
-      (record {
-        near = near;
-        few = few;
-        samplerate = w .samplerate;
-        bitrate = w .bitrate;
-        mode = w .mode;
-        bound = w .bound;
-        mono = w .mono;
-        place = w .place;
-        large = w .large;
-        small = w .small;
-        known = w .known;
-        first = w .first;
-        time = w .time;
-      })
-      (λ h. record { extension = h .extension; time = h .time }) refl
+  moved n = refused-kept n _ (stands-ranged a r w near few) (λ h. record { extension = h .extension; time = h .time }) refl
 
-  -- accepted: the sample rate is the old one, or there was none
-  module _ (f : Format) (n : ℕ) (g : Good (a .format) f n) where
-    same-start : startTimeOf (a .frames) (a .format .samplerate) ≡ startTimeOf (a .frames) (f .samplerate)
-    same-start = go (ℕ-discrete (a .format .samplerate) 3)
-      where
-        go : Dec (a .format .samplerate ≡ 3) → startTimeOf (a .frames) (a .format .samplerate) ≡ startTimeOf (a .frames) (f .samplerate)
-        go (yes e) = rw (e, w .first e) (first-time (f .samplerate) (g .samplerate))
-        go (no e) = ap (startTimeOf (a .frames)) (sym (g .same e .samplerate))
-
-    accepted : Kept a (seeking a r (Accepted f n))
-    unfolding onTime
-    accepted =
-        record {
-          ranged =
-              record {
-                near = near;
-                few = few;
-                samplerate = omega arith;
-                bitrate = omega arith;
-                mode = omega arith;
-                bound = g .bound;
-                mono = g .mono;
-                place = w .place;
-                large = λ _. g .least;
-                small = g .most;
-                known = λ e. absurd (let l = g .samplerate in omega arith);
-                first = λ e. absurd (let l = g .samplerate in omega arith);
-                time = ap (sameBits (a .time)) (sym same-start) ∙ w .time;
-              };
-          sound = λ h. record { extension = λ _. g .extension; time = h .time ∙ same-start };
-          frames = refl;
-          some = λ _ e. omega arith;
-        }
+  accepted : (f : Format) (n : ℕ) → Good (a .format) f n → Kept a (seeking a r (Accepted f n))
+  accepted f n g =
+      record {
+        ranged = pends-ranged a r w near few f n g;
+        sound = λ h. record { extension = λ _. g .extension; time = h .time ∙ same-start a w f n g };
+        frames = refl;
+        some = λ _ e. omega arith;
+      }
 
   sought : (h : Header) → GoodHeader (a .format) h → Kept a (seeking a r h)
   sought (Accepted f n) g = accepted f n g

@@ -27,6 +27,7 @@ same-length c = search needs
 same-length-2 : tie.Need-same-length-2
 same-length-2 c = search needs
 
+-- what audio promises of the state that was restored, handed on field by field
 returns : tie.Need-returns
 returns c =
     let at-answer = c .before .before in
