@@ -9,7 +9,7 @@ use lib.ListN.{length, drop}
 use lib.IntN.{pos}
 use lib.Ieee.{Float, fin}
 use lib.Dec.{eqb, ltb}
-use borrow.Author.Tests.{ltb-true, ltb-false, eqb-true, eqb-false, ne-eqb, le-ltb}
+use borrow.Author.Tests.{ltb-true, ltb-false, eqb-true, eqb-false, ne-eqb}
 use Rattle.ground.specs.Tests.{by-test}
 use Rattle.ground.specs.Table.{length-table}
 use Rattle.buffer.specs.Bits.{longestStream}
@@ -99,14 +99,10 @@ unfolding openOf
 by-opening c s memory Q eight nine sought =
     by-room s (length memory) (λ n. Q (unlessAtOnce n (fresh c) (attemptOf s (fresh c)))) eight nine sought
 
--- 0 says that there is room, and where there is it is 0
+-- 0 says that there is room
 pub long-enough : (s : List ℕ) (memory n : ℕ) → n ≡ noRoomOf s memory → n ≡ 0 → memoryLength ≤ memory
 long-enough s memory n e none =
     by-room s memory (λ k. k ≡ 0 → memoryLength ≤ memory) (λ _ z. absurd (omega arith)) (λ _ _ z. absurd (omega arith)) (λ _ k _. k) (sym e ∙ none)
-
-pub room-gives-0 : (s : List ℕ) (memory : ℕ) → length s ≤ longestStream → memoryLength ≤ memory → noRoomOf s memory ≡ 0
-unfolding noRoomOf
-room-gives-0 s memory l k = simp (le-ltb _ _ l, le-ltb _ _ k)
 
 pub by-asking : (s : List ℕ) (a : Audio) (Q : Asked → Type 0)
     → (longestStream < length s → Q (asked (Refused 8) a))

@@ -323,16 +323,6 @@ attempt-number (five room y u f) = omega arith
 attempt-number (six room y u f k d) = omega arith
 attempt-number (zero room y u f d) = omega arith
 
--- with any number but 1 there were 48 bits
-pub attempt-room : {s : List ℕ} {r : Reader} {known : Format} {n : ℕ} {x : Attempt} → Attempts s r known n x → (n ≡ 1 → ⊥) → 48 ≤ left s r
-attempt-room (one l) not = absurd (not refl)
-attempt-room (two room o l) not = room
-attempt-room (three room y n) not = room
-attempt-room (four room y l b) not = room
-attempt-room (five room y u f) not = room
-attempt-room (six room y u f k d) not = room
-attempt-room (zero room y u f d) not = room
-
 -- the first header is never refused with 6
 first-is-not-six : {s : List ℕ} {r : Reader} {known : Format} {x : Attempt} → known .samplerate ≡ 3 → Attempts s r known 6 x → ⊥
 first-is-not-six e (six room y u f k d) = k e

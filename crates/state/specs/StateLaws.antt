@@ -1,4 +1,5 @@
--- What a state in range holds, both ways. From 01, "Numbers a call can give" (State in range). Assumes nothing.
+-- What a state in range holds, both ways, and that each way in which a call changes it keeps it so. From 01, "Numbers a call can
+-- give" (State in range). Assumes nothing.
 use Prim.Native.Nat.{ℕ, zero, suc, _+_, _*_, _≤_, _<_}
 use mathlib.Core.Path.{_≡_, refl, sym, ap, subst, _∙_}
 use mathlib.Core.Bool.{Bool, true, false, not, _&&_, _||_}

@@ -61,6 +61,7 @@ atOnceOf s memory output a =
     cond (ltb longestStream (length s)) 8
     (cond (ltb memory memoryLength) 9 (cond (ltb output outputLength) 9 (cond (inRange a) 0 10)))
 
+-- what is asked next, where the number is 0; else it is given, and the state is the same
 abbrev pub unlessAtOnce : ℕ → Audio → Asked → Asked
 unlessAtOnce number a more = cond (eqb number 0) more (asked (Refused number) a)
 

@@ -124,7 +124,8 @@ pub data Heads (s : List ℕ) (a : Audio) : Audio → Type 0 where
   waits : (a .pending ≡ 0 → ⊥) → Heads s a a
   accepts : {b : Audio} → a .pending ≡ 0 → attemptOf s a ≡ asked Known b → Heads s a b
 
--- after a header: 7, or all that a frame asks for
+-- how the verdict ends: refused at once; refused with 1 to 6 as a header is sought; with 7 after the header; or with all that a frame
+-- asks for
 pub data Verdict (s : List ℕ) (memory output : ℕ) (a : Audio) : Asked → Type 0 where
   at-once : {n : ℕ} → AtOnce s memory output a n → Verdict s memory output a (asked (Refused n) a)
   no-header : {n : ℕ} {b : Audio} → Called s memory output a → a .pending ≡ 0 → attemptOf s a ≡ asked (Refused n) b
