@@ -1,40 +1,18 @@
 -- How the machine puts a field together out of 8 bytes at once.
 -- Assumes nothing.
-use Prim.Native.Nat.{ℕ, zero, suc, _+_, _-_, _*_, _/_, _%_, _^_, _≤_, _<_}
+use Prim.Native.Nat.{ℕ, _+_, _-_, _*_, _/_, _%_, _^_, _≤_, _<_}
 use mathlib.Core.Path.{_≡_, refl, ap, sym, _∙_}
 use mathlib.Core.List.{List}
-use native.Mathlib.Nat.{mod-one, div-one, lt-of-lt-of-le, le-of-suc-le-suc}
-use native.Mathlib.Numerals.{add-one}
+use native.Mathlib.Nat.{lt-of-lt-of-le, le-of-suc-le-suc}
 use native.Mathlib.Omega.{arith}
-use lib.Pow.{pow-mono, mod-pow-add, shr-shr, shl-shr, high, low, field}
+use lib.Pow.{pow-mono, shr-shr, shl-shr, high, low, field}
 use lib.ListN.{getD}
-use Rattle.buffer.specs.Bits.{bitAt, bitsValue}
-use Rattle.buffer.specs.Laws.{split, bits-below}
+use Rattle.buffer.specs.Bits.{bitsValue}
+use Rattle.buffer.specs.Laws.{split, bits-below, byte-at}
 use Rattle.buffer.specs.Calls.{orZero}
 use Rattle.buffer.specs.declared.Reader.{Reader}
 use Rattle.buffer.specs.declared.Read.{Read}
 use Rattle.buffer.specs.declared.Read.the-variants.{Value, Short, Refused}
-
--- some of a byte's bits, with the next one
-grow : (b e k : ℕ) → b / 2 ^ (e + 1) % 2 ^ k * 2 + b / 2 ^ e % 2 ≡ b / 2 ^ e % 2 ^ suc k
-grow b e k = rw (← add-one k, mod-pow-add (b / 2 ^ e) k 1, shr-shr b e 1)
-
--- the k bits from `at`, where they lie in one byte
-in-byte : (s : List ℕ) (at k : ℕ) → at % 8 + k ≤ 8 → bitsValue s at k ≡ getD s (at / 8) 0 / 2 ^ (8 - at % 8 - k) % 2 ^ k
-unfolding bitsValue bitAt
-in-byte s at zero h = sym (mod-one _)
-in-byte s at (suc k) h =
-    let same : (at + k) / 8 ≡ at / 8 = omega arith in
-    let lower : 7 - (at + k) % 8 ≡ 8 - at % 8 - suc k = omega arith in
-    let upper : 8 - at % 8 - k ≡ 8 - at % 8 - suc k + 1 = omega arith in
-    rw (in-byte s at k (omega arith), same, lower, upper) (grow (getD s (at / 8) 0) (8 - at % 8 - suc k) k)
-
--- a byte's 8 bits
-byte-at : (s : List ℕ) (i : ℕ) → getD s i 0 % 256 ≡ bitsValue s (i * 8) 8
-byte-at s i =
-    let place : i * 8 / 8 ≡ i = omega arith in
-    let whole : i * 8 % 8 ≡ 0 = omega arith in
-    sym (rw (place, whole, div-one) at (in-byte s (i * 8) 8 (omega arith)))
 
 -- 4 bytes
 pub four-bytes : (s : List ℕ) (i : ℕ) → bitsValue s (i * 8) 32

@@ -1,11 +1,12 @@
 -- What the floors above need of the bits and of a field, each stated once.
 -- Assumes nothing.
 use Prim.Native.Nat.{ℕ, zero, suc, _+_, _-_, _*_, _/_, _%_, _^_, _≤_, _<_, max}
-use mathlib.Core.Path.{_≡_, refl}
+use mathlib.Core.Path.{_≡_, refl, sym}
 use mathlib.Core.List.{List}
-use native.Mathlib.Nat.{add-zero, add-suc, add-assoc, mod-lt, mul-one, pow-suc, pow-zero}
+use native.Mathlib.Nat.{add-zero, add-suc, add-assoc, mod-lt, mod-one, div-one, mul-one, pow-suc, pow-zero}
+use native.Mathlib.Numerals.{add-one}
 use native.Mathlib.Omega.{arith}
-use lib.Pow.{pow-pos}
+use lib.Pow.{pow-pos, mod-pow-add, shr-shr}
 use lib.ListN.{getD, length}
 use lib.Dec.{lit<, ltb}
 use borrow.Author.Tests.{le-ltb, ltb-false}
@@ -29,6 +30,27 @@ unfolding bitsValue bitAt
 bits-below s at zero = omega arith
 bits-below s at (suc n) =
     omega (arith, bits-below s at n, mod-lt (getD s ((at + n) / 8) 0 / 2 ^ (7 - (at + n) % 8)) {m = 2} (lit< tt))
+
+-- some of a byte's bits, with the next one
+grow : (b e k : ℕ) → b / 2 ^ (e + 1) % 2 ^ k * 2 + b / 2 ^ e % 2 ≡ b / 2 ^ e % 2 ^ suc k
+grow b e k = rw (← add-one k, mod-pow-add (b / 2 ^ e) k 1, shr-shr b e 1)
+
+-- the k bits from `at`, where they lie in one byte
+pub in-byte : (s : List ℕ) (at k : ℕ) → at % 8 + k ≤ 8 → bitsValue s at k ≡ getD s (at / 8) 0 / 2 ^ (8 - at % 8 - k) % 2 ^ k
+unfolding bitsValue bitAt
+in-byte s at zero h = sym (mod-one _)
+in-byte s at (suc k) h =
+    let same : (at + k) / 8 ≡ at / 8 = omega arith in
+    let lower : 7 - (at + k) % 8 ≡ 8 - at % 8 - suc k = omega arith in
+    let upper : 8 - at % 8 - k ≡ 8 - at % 8 - suc k + 1 = omega arith in
+    rw (in-byte s at k (omega arith), same, lower, upper) (grow (getD s (at / 8) 0) (8 - at % 8 - suc k) k)
+
+-- a byte's 8 bits
+pub byte-at : (s : List ℕ) (i : ℕ) → getD s i 0 % 256 ≡ bitsValue s (i * 8) 8
+byte-at s i =
+    let place : i * 8 / 8 ≡ i = omega arith in
+    let whole : i * 8 % 8 ≡ 0 = omega arith in
+    sym (rw (place, whole, div-one) at (in-byte s (i * 8) 8 (omega arith)))
 
 -- the reader's refusals 8 and 10 do not arise, and n bits remain
 pub record Enough (s : List ℕ) (r : Reader) (n : ℕ) : Type 0 where

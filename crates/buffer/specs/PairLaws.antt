@@ -1,15 +1,16 @@
--- "No sync found" in 01's words: the search stops at the last byte exactly when no pair starts at any byte that it looked at.
+-- "No sync found" in 01's words: the search stops at the last byte exactly when no pair starts at any byte that it looked at. Where it
+-- stops before, a pair starts.
 -- Assumes nothing.
 use Prim.Native.Nat.{ℕ, zero, suc, _+_, _-_, _≤_, _<_}
 use mathlib.Core.Path.{_≡_, ap, _∙_}
-use mathlib.Core.Bool.{Bool, false}
+use mathlib.Core.Bool.{Bool, true, false}
 use mathlib.Core.List.{List}
 use mathlib.Core.Logic.{_↔_}
 use native.Mathlib.Decide.{ℕ-discrete}
 use native.Mathlib.Omega.{arith}
 use lib.ListN.{length}
 use Rattle.ground.specs.Tests.{by-test}
-use Rattle.ground.specs.First.{firstFrom, first-within}
+use Rattle.ground.specs.First.{firstFrom, first-within, first-holds}
 use Rattle.buffer.specs.Bits.{pairAt, stopOf}
 
 -- the test fails at each of the k places from i
@@ -42,3 +43,8 @@ no-pair-found s i = (
   λ h j l m. passed (pairAt s) (length s - 1 - i) i (omega (arith, first-within (pairAt s) (length s - 1 - i) i)) j l (omega arith),
   λ f. omega (arith, passes (pairAt s) (length s - 1 - i) i (λ j l m. f j l (omega arith))),
 )
+
+-- else a pair starts where it stopped
+pub pair-found : (s : List ℕ) (i : ℕ) → stopOf s i < length s - 1 → pairAt s (stopOf s i) ≡ true
+pair-found s i h =
+    first-holds (pairAt s) (length s - 1 - i) i (omega (arith, first-within (pairAt s) (length s - 1 - i) i))

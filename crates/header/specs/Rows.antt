@@ -1,7 +1,9 @@
--- 01's rows 2 to 5: the data sizes of headers at the start of a stream, computed.
+-- A header's numbers, computed: 01's rows 2 to 5, the data sizes of headers at the start of a stream; every bound; every data size.
+-- Assumes nothing.
 use Prim.Native.Nat.{ℕ}
 use mathlib.Core.Path.{_≡_, refl}
-use mathlib.Core.List.{_∷_, []}
+use mathlib.Core.Bool.{false}
+use mathlib.Core.List.{_∷_, [], _++_, map}
 use lib.ListN.{replicate}
 use Rattle.ground.specs.First.{firstFrom}
 use Rattle.buffer.specs.Bits.{bitAt, bitsValue}
@@ -11,7 +13,7 @@ use Rattle.header.specs.Readings.{plain}
 use Rattle.header.specs.declared.Format.{Format}
 use Rattle.header.specs.declared.Header.{Header}
 use Rattle.header.specs.declared.Header.the-variants.{Accepted, Refused}
-use Rattle.header.specs.Header.{headerOf, startOf, syncOf, fieldsOf, identOf, ratesOf, restOf, modeOf, boundOf, checkOf, sizeOf}
+use Rattle.header.specs.Header.{boundBy, headerOf, startOf, syncOf, fieldsOf, identOf, ratesOf, restOf, modeOf, boundOf, checkOf, sizeOf}
 
 -- no header yet
 abbrev pub unknown : Format
@@ -32,3 +34,17 @@ pub rows-2-to-5 : announced 0xFF 0xFD 0xA0 0x00 ∷ announced 0xFF 0xFD 0xA2 0x0
 unfolding announced headerOf startOf syncOf hasOf skipBytesOf fieldOf readOf bitsValue bitAt firstFrom run _>>=_
     fieldsOf identOf ratesOf restOf modeOf boundOf checkOf sizeOf
 rows-2-to-5 = refl
+
+-- "joint stereo (1) gives 4 times (extension + 1), mono (3) gives 0, others 32"
+pub bounds : map (boundBy 1) (0 ∷ 1 ∷ 2 ∷ 3 ∷ []) ++ (boundBy 0 0 ∷ boundBy 2 3 ∷ boundBy 3 3 ∷ []) ≡ 4 ∷ 8 ∷ 12 ∷ 16 ∷ 32 ∷ 32 ∷ 0 ∷ []
+bounds = refl
+
+-- every bit rate at 44,100, 48,000 and 32,000 Hz, no padding, no check word: the frame's bytes by the standard's table of bit rates, less 4
+pub sizes : map (λ samplerate. map (λ bitrate. sizeOf bitrate samplerate 0 false) (0 ∷ 1 ∷ 2 ∷ 3 ∷ 4 ∷ 5 ∷ 6 ∷ 7 ∷ 8 ∷ 9 ∷ 10 ∷ 11 ∷ 12 ∷ 13 ∷ []))
+    (0 ∷ 1 ∷ 2 ∷ [])
+    ≡ (100 ∷ 152 ∷ 178 ∷ 204 ∷ 257 ∷ 309 ∷ 361 ∷ 413 ∷ 518 ∷ 622 ∷ 727 ∷ 831 ∷ 1040 ∷ 1249 ∷ [])
+    ∷ (92 ∷ 140 ∷ 164 ∷ 188 ∷ 236 ∷ 284 ∷ 332 ∷ 380 ∷ 476 ∷ 572 ∷ 668 ∷ 764 ∷ 956 ∷ 1148 ∷ [])
+    ∷ (140 ∷ 212 ∷ 248 ∷ 284 ∷ 356 ∷ 428 ∷ 500 ∷ 572 ∷ 716 ∷ 860 ∷ 1004 ∷ 1148 ∷ 1436 ∷ 1724 ∷ [])
+    ∷ []
+unfolding sizeOf
+sizes = refl

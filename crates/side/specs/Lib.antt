@@ -3,3 +3,4 @@ pub mod Side
 pub mod Below
 pub mod Values
 pub mod Widths
+pub mod Rows
