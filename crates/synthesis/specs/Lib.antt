@@ -5,3 +5,5 @@ pub mod Output
 pub mod Granule
 pub mod Wash
 pub mod Equal
+pub mod Tone
+pub mod Source

@@ -1,2 +1,4 @@
 pub mod Window
 pub mod Output
+pub mod Source
+pub mod Prototype
