@@ -1,6 +1,5 @@
-pub mod Related
-pub mod Layer2
-pub mod Made
-pub mod Alike
-pub mod Headers
-pub mod Listed
+pub mod Header
+pub mod AudioData
+pub mod Fractions
+pub mod Values
+pub mod Examples

@@ -1,0 +1,11 @@
+pub mod Related
+pub mod Bound
+pub mod Replaced
+pub mod Made
+pub mod Alike
+pub mod Frames
+pub mod Fields
+pub mod Headers
+pub mod Values
+pub mod JointStereo
+pub mod Listed
