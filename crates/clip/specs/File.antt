@@ -1,11 +1,13 @@
 -- The WAVE file of a clip. From 02, E1: "a RIFF WAVE file: the 44-byte header, 16-bit stereo, then every decoded frame."
 -- Assumes nothing.
-use Prim.Native.Nat.{ℕ, zero, suc, _+_, _<_}
-use mathlib.Core.Path.{_≡_, refl, ap, sym, _∙_}
-use native.Mathlib.Omega.{arith}
-use native.Mathlib.Numerals.{add-one}
+use Prim.Native.Nat.{ℕ, suc, _≤_, _<_}
+use mathlib.Core.Path.{_≡_, ap, _∙_}
+use mathlib.Core.Bool.{cond}
 use mathlib.Core.List.{List, [], _∷_, _++_}
-use lib.ListN.{length, getD}
+use lib.Dec.{ltb}
+use lib.ListN.{length, drop, getD}
+use lib.Seq.{drop-cons, drop-length}
+use borrow.Author.Tests.{lt-ltb, le-ltb}
 use Rattle.clip.specs.Frames.{Heard, clipOf, rateIn}
 use Rattle.riff.specs.Header.{waveHeaderOf}
 use Rattle.riff.specs.Level.{pcmOf}
@@ -26,28 +28,28 @@ joined (part ∷ more) = part ++ joined more
 unfoldable pub fileOf : List ℕ → List ℕ
 fileOf s = joined (partsOf s)
 
--- what the program must show of each part that it writes: the first is the header, and the others are the frames
-pub header-part : (s : List ℕ) → (0 < length (partsOf s)) × (waveHeaderOf (length (clipOf s)) (rateIn (clipOf s)) ≡ getD (partsOf s) 0 [])
-unfolding partsOf
-header-part s = (omega arith, refl)
+-- what the program writes: of more than 65,536 bytes nothing
+unfoldable pub waveOf : List ℕ → List ℕ
+waveOf s = cond (ltb 65536 (length s)) [] (fileOf s)
 
-module _ (d : Heard) where
-  frame-in : (xs : List Heard) (i : ℕ) → i < length xs → pcmOf (getD xs i d .samples) ≡ getD (frameParts xs) i []
-  unfolding frameParts
-  frame-in (x ∷ xs) zero l = refl
-  frame-in (x ∷ xs) (suc i) l = frame-in xs i (omega arith)
+-- a file begins with its header, and the frames from frame i on with frame i
+pub header-first : (s : List ℕ) → length s ≤ 65536
+    → waveOf s ≡ waveHeaderOf (length (clipOf s)) (rateIn (clipOf s)) ++ joined (frameParts (clipOf s))
+unfolding waveOf fileOf partsOf joined
+header-first s short = rw (le-ltb 65536 (length s) short)
 
-length-frames : (xs : List Heard) → length (frameParts xs) ≡ length xs
-unfolding frameParts
-length-frames [] = refl
-length-frames (x ∷ xs) = ap suc (length-frames xs)
+pub frame-first : (xs : List Heard) (i : ℕ) (x : Heard) → i < length xs → getD xs i x ≡ x
+    → joined (frameParts (drop i xs)) ≡ pcmOf (x .samples) ++ joined (frameParts (drop (suc i) xs))
+unfolding frameParts joined
+frame-first xs i x l e =
+    let first : drop i xs ≡ x ∷ drop (suc i) xs = drop-cons xs i x l ∙ ap (λ (y : Heard). y ∷ drop (suc i) xs) e in
+    ap (λ (ys : List Heard). joined (frameParts ys)) first
 
-pub part-count : (s : List ℕ) → length (partsOf s) ≡ suc (length (clipOf s))
-unfolding partsOf
-part-count s = ap suc (length-frames (clipOf s))
+pub none-behind : (xs : List Heard) (i : ℕ) → i ≡ length xs → joined (frameParts (drop i xs)) ≡ []
+unfolding frameParts joined
+none-behind xs i e = rw (e, drop-length)
 
-pub frame-part : (s : List ℕ) (i : ℕ) (x : Heard) → i < length (clipOf s) → getD (clipOf s) i x ≡ x
-    → (i + 1 < length (partsOf s)) × (pcmOf (x .samples) ≡ getD (partsOf s) (i + 1) [])
-unfolding partsOf
-frame-part s i x l e =
-    (omega (arith, length-frames (clipOf s)), rw (add-one i) (ap (λ y. pcmOf (y .samples)) (sym e) ∙ frame-in x (clipOf s) i l))
+-- nothing is written of a longer stream
+pub none-of-long : (s : List ℕ) → 65536 < length s → waveOf s ≡ []
+unfolding waveOf
+none-of-long s long = rw (lt-ltb 65536 (length s) long)

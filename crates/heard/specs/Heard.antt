@@ -37,7 +37,7 @@ use Rattle.verdict.specs.VerdictLaws.{Called}
 abbrev pub after : Call → Call
 after c = record { stream = c .stream; memory = newMemory c; output = newOutput c; state = outcome c .state }
 
-abbrev opening : List ℕ → Call
+abbrev pub opening : List ℕ → Call
 opening s = record { stream = s; memory = openMemory s (quiet memoryLength); output = quiet outputLength; state = openOf plain s (quiet memoryLength) .state }
 
 abbrev heardFrom : ℕ → Call → List Heard
@@ -66,10 +66,10 @@ same-heard (RefusedAnswer n) a o more others e =
     let h = neither (eqb n 1) (eqb n 7) t in rw t (e (eqb-false n 1 (h .0)) (eqb-false n 7 (h .1))))
 
 -- neither 8 nor 9 nor 10
-abbrev Begun : Call → Type 0
+abbrev pub Begun : Call → Type 0
 Begun c = Called (c .stream) (length (c .memory)) (length (c .output)) (c .state)
 
-opening-begun : (s : List ℕ) → length s ≤ longestStream → Begun (opening s)
+pub opening-begun : (s : List ℕ) → length s ≤ longestStream → Begun (opening s)
 opening-begun s short =
     record {
       room =
@@ -82,7 +82,7 @@ opening-begun s short =
     }
 
 module _ (c : Call) (b : Begun c) where
-  begun-on : Begun (after c)
+  pub begun-on : Begun (after c)
   begun-on =
       let e = decode-lengths c in
       let l = b .room .memory-long in

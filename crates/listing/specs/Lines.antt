@@ -1,17 +1,24 @@
--- The lines of the lister. From 01, "Table of proved examples" (The lister).
-use Prim.Native.Nat.{ℕ, _+_, _-_, _/_}
-use mathlib.Core.Bool.{cond}
-use mathlib.Core.List.{List}
+-- The lines of the lister. From 01, "Table of proved examples" (The lister). Assumes nothing.
+use Prim.Native.Nat.{ℕ, zero, suc, _+_, _-_, _/_}
+use mathlib.Core.Bool.{Bool, true, false, cond, _&&_}
+use mathlib.Core.List.{List, [], _∷_, _++_, map}
+use lib.Dec.{leb, ltb}
 use lib.Ieee.{Float}
+use lib.ListN.{length, replicate}
+use Rattle.window.specs.Output.{nought}
+use Rattle.synthesis.specs.Slots.{memoryLength, outputLength}
+use Rattle.header.specs.Readings.{plain}
 use Rattle.tables.specs.Standard.{kbpsOf, rateOf}
-use Rattle.audio.specs.Calls.{decodeOf}
+use Rattle.verdict.specs.declared.Heading.{Heading}
+use Rattle.verdict.specs.declared.Heading.the-variants.{Known, Refused as HeadingRefused}
+use Rattle.audio.specs.Calls.{openOf, openMemory, decodeOf, decodeMemory, decodeOutput}
 use Rattle.audio.specs.Numbers.{ends}
 use Rattle.state.specs.declared.Audio.{Audio}
 use Rattle.audio.specs.declared.Answer.{Answer}
 use Rattle.audio.specs.declared.Answer.the-variants.{Frame, Refused}
 use Rattle.audio.specs.declared.Decoded.{Decoded}
 use Rattle.listing.specs.declared.Line.{Line}
-use Rattle.listing.specs.declared.Line.the-variants.{Frame as FrameLine, Refused as RefusedLine, End}
+use Rattle.listing.specs.declared.Line.the-variants.{Frame as FrameLine, Refused as RefusedLine, End, Long}
 use Rattle.listing.specs.declared.Listed.{Listed}
 
 -- "byte position afterwards, rounded down"
@@ -33,3 +40,62 @@ withLine number d = record { line = lineBy number (d .answer) (d .state); state 
 -- the next call's
 unfoldable pub nextOf : List ℕ → List Float → List Float → Audio → Listed
 nextOf s memory output a = withLine (a .frames) (decodeOf s memory output a)
+
+-- ---- all lines of a stream
+
+-- a line, and the output beside it: replay tells a frame's samples by it
+pub record Shown : Type 0 where
+  pub line : Line
+  pub samples : List Float
+
+-- its parts
+abbrev pub shown : Line → List Float → Shown
+shown line samples = record { line = line; samples = samples }
+
+-- "calls until 1 or 7"; "the one line `long`": no line follows these
+abbrev pub isLast : Line → Bool
+isLast (FrameLine number at rate kbps mode bits time) = false
+isLast (RefusedLine number at) = false
+isLast (End number at) = true
+isLast Long = true
+
+-- the lines of at most so many calls
+unfoldable pub shownFrom : ℕ → List ℕ → List Float → List Float → Audio → List Shown
+shownFrom zero s memory output a = []
+shownFrom (suc calls) s memory output a =
+    let x = nextOf s memory output a in
+    let m = decodeMemory s memory output a in
+    let o = decodeOutput s memory output a in
+    shown (x .line) o ∷ cond (isLast (x .line)) [] (shownFrom calls s m o (x .state))
+
+-- "an opening refused with 2 to 5 prints it too"
+abbrev pub openingTold : ℕ → Bool
+openingTold n = leb 2 n && leb n 5
+
+-- "number and byte position afterwards"; an opening refused with 1 is told by the first call
+abbrev pub openingShown : Heading → Audio → List Shown
+openingShown Known a = []
+openingShown (HeadingRefused n) a = cond (openingTold n) (shown (RefusedLine n (bytePosition a)) [] ∷ []) []
+
+-- +0.0, n times: what memory and output are before the opening
+abbrev pub quiet : ℕ → List Float
+quiet n = replicate n nought
+
+-- from a fresh opening; on n bytes call n/2 + 2 and all later ones give 1 or 7 (claims, `settles`)
+unfoldable pub calledOf : List ℕ → List Shown
+calledOf s =
+    let opened = openOf plain s (quiet memoryLength) in
+    openingShown (opened .answer) (opened .state)
+    ++ shownFrom (length s / 2 + 2) s (openMemory s (quiet memoryLength)) (quiet outputLength) (opened .state)
+
+-- "at most 65,536 bytes"
+abbrev pub tooLong : List ℕ → Bool
+tooLong s = ltb 65536 (length s)
+
+-- "more: the one line `long`"
+unfoldable pub shownOf : List ℕ → List Shown
+shownOf s = cond (tooLong s) (shown Long [] ∷ []) (calledOf s)
+
+-- the whole listing of a stream
+abbrev pub linesOf : List ℕ → List Line
+linesOf s = map (λ (x : Shown). x .line) (shownOf s)

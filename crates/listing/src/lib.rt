@@ -5,7 +5,7 @@ ghost use mathlib.Core.Path.{_≡_};
 ghost use Prim.Native.Nat.{_+_, _-_, _/_};
 ghost use Rattle.tables.specs.Standard.{kbpsOf, rateOf};
 ghost use Rattle.audio.specs.Calls.{decodeMemory, decodeOutput};
-ghost use Rattle.listing.specs.Lines.{bytePosition, lineBy, nextOf};
+ghost use Rattle.listing.specs.Lines.{bytePosition, isLast, lineBy, nextOf};
 
 pub enum Line {
     Frame {
@@ -25,6 +25,7 @@ pub enum Line {
         number: u32,
         at: usize,
     },
+    Long,
 }
 
 pub struct Listed {
@@ -65,6 +66,18 @@ fn kbps(bitrate: usize) -> u32
         return tables::kbps(bitrate);
     }
     0
+}
+
+// Whether no line follows.
+pub fn is_last(line: Line) -> bool
+    ensures { λ r. ⌜ r ≡ isLast line ⌝ }
+{
+    match line {
+        Line::Frame { .. } => false,
+        Line::Refused { .. } => false,
+        Line::End { .. } => true,
+        Line::Long => true,
+    }
 }
 
 // One decode call, and its line.

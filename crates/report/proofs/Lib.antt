@@ -1,2 +1,2 @@
-pub mod Prime
-pub mod Patterns
+pub mod Lengths
+pub mod Turns

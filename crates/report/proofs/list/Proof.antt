@@ -1,15 +1,25 @@
-use borrow.Author.Needs.{needs}
 use mathlib.Core.Path.{_≡_}
+use native.Mathlib.Omega.{arith}
+use lib.Ieee.{ofBits}
 use lib.ListN.{length}
+use borrow.Author.Needs.{needs}
 use Rattle.synthesis.specs.Slots.{memoryLength, outputLength}
+use Rattle.listing.specs.Lines.{shownFrom}
+use Rattle.listing.specs.Text.{textsOf, listingOf}
+use Rattle.scribe.specs.Next.{Rest}
+use Rattle.report.proofs.Lengths.{listing-fits}
+use Rattle.report.proofs.Turns.{opening-next, calls-rest, line-next, none-left, after-last, after-other}
 use Rattle.report.proofs.list.Statement.{statement}
 use Rattle.report.proofs.list.Tie as tie
 
+-- what is left to write is what the calls that are left will give
 abbrev Inv-loop : tie.InvT-loop
-Inv-loop stream marked memory₀ output₀ state₀ calls₀ memory output state calls = (length memory ≡ memoryLength) × (length output ≡ outputLength)
+Inv-loop stream marked memory₀ output₀ done₀ state₀ calls₀ memory output done state calls =
+    (length memory ≡ memoryLength) × (length output ≡ outputLength)
+    × Rest (listingOf marked stream) (done .bytes) (textsOf marked (shownFrom calls stream memory output state))
 
 abbrev μ-loop : tie.MeasureT-loop
-μ-loop stream marked memory₀ output₀ state₀ calls₀ memory output state calls = calls
+μ-loop stream marked memory₀ output₀ done₀ state₀ calls₀ memory output done state calls = calls
 
 plain-requires : tie.Need-plain-requires Inv-loop μ-loop
 plain-requires c κs = search needs
@@ -20,14 +30,32 @@ slice-aggregate-new c = search needs
 new-requires : tie.Need-new-requires Inv-loop μ-loop
 new-requires c κs = search needs
 
-print-opening-requires : tie.Need-print-opening-requires Inv-loop μ-loop
-print-opening-requires c κs = search needs
+nothing-yet-requires : tie.Need-nothing-yet-requires Inv-loop μ-loop
+nothing-yet-requires c κs = search needs
+
+put-opening-requires : tie.Need-put-opening-requires Inv-loop μ-loop
+unfolding ofBits
+put-opening-requires c κs =
+    let at-new = c .before .before in
+    let entry = at-new .before .before .before .before in
+    let e = at-new .new .ensures in
+    (listing-fits _ _, opening-next _ _ _ _ _ (entry .pre) (at-new .before .before .plain .ensures) (e .0) (e .1) _ (c .nothing-yet .ensures .0))
 
 add-calls : tie.Need-add-calls Inv-loop μ-loop
 add-calls c = search needs
 
 loop-holds : tie.Need-loop-holds Inv-loop μ-loop
-loop-holds c = search needs
+unfolding ofBits
+loop-holds c =
+    let begun = c .before .before in
+    let at-new = begun .before .before in
+    let entry = at-new .before .before .before .before in
+    let e = at-new .new .ensures in
+    let plainly = at-new .before .before .plain .ensures in (
+      search needs,
+      search needs,
+      calls-rest _ _ _ _ _ (entry .pre) plainly (e .0) (e .1) _ _ (begun .nothing-yet .ensures .0) (c .before .put-opening .ensures),
+    )
 
 sub-calls : tie.Need-sub-calls Inv-loop μ-loop
 sub-calls c = search needs
@@ -41,23 +69,45 @@ slice-aggregate-next-line-2 c = search needs
 next-line-requires : tie.Need-next-line-requires Inv-loop μ-loop
 next-line-requires c κs = search needs
 
-slice-aggregate-print-line : tie.Need-slice-aggregate-print-line Inv-loop μ-loop
-slice-aggregate-print-line c = search needs
+slice-aggregate-put-line : tie.Need-slice-aggregate-put-line Inv-loop μ-loop
+slice-aggregate-put-line c = search needs
 
-print-line-requires : tie.Need-print-line-requires Inv-loop μ-loop
-print-line-requires c κs = search needs
+put-line-requires : tie.Need-put-line-requires Inv-loop μ-loop
+put-line-requires c κs =
+    let called = c .before .before .before .before in
+    let head = called .before .before .before .before in
+    let e = called .next-line .ensures in
+    (listing-fits _ _, line-next _ _ _ _ _ _ (head .loop .inv .2) _ _ _ (omega arith) (e .0) (e .1 .0) (e .1 .1))
 
-returns : tie.Need-returns Inv-loop μ-loop
-returns c = search needs
+is-last-requires : tie.Need-is-last-requires Inv-loop μ-loop
+is-last-requires c κs = search needs
 
 loop-less : tie.Need-loop-less Inv-loop μ-loop
 loop-less c = search needs
 
 loop-again : tie.Need-loop-again Inv-loop μ-loop
-loop-again c = search needs
+loop-again c =
+    let put = c .before .before in
+    let called = put .before .before .before .before .before in
+    let head = called .before .before .before .before in
+    let e = called .next-line .ensures in (
+      search needs,
+      search needs,
+      after-other _ _ _ _ _ _ (head .loop .inv .2) _ _ _ (omega arith) (e .0) (e .1 .0) (e .1 .1) _ _ (put .put-line .ensures) (c .before .is-last .ensures)
+          (c .if1 .left),
+    )
+
+returns : tie.Need-returns Inv-loop μ-loop
+returns c = none-left _ _ _ _ _ _ (c .before .loop .inv .2) (omega arith)
 
 returns-2 : tie.Need-returns-2 Inv-loop μ-loop
-returns-2 c = search needs
+returns-2 c =
+    let put = c .before .before in
+    let called = put .before .before .before .before .before in
+    let head = called .before .before .before .before in
+    let e = called .next-line .ensures in
+    after-last _ _ _ _ _ _ (head .loop .inv .2) _ _ _ (omega arith) (e .0) (e .1 .0) (e .1 .1) _ _ (put .put-line .ensures) (c .before .is-last .ensures)
+    (c .if1 .taken)
 
 pub list-spec : {M : Type 1} → statement M
 list-spec =
@@ -68,16 +118,18 @@ list-spec =
     plain-requires
     slice-aggregate-new
     new-requires
-    print-opening-requires
+    nothing-yet-requires
+    put-opening-requires
     add-calls
     loop-holds
     sub-calls
     slice-aggregate-next-line
     slice-aggregate-next-line-2
     next-line-requires
-    slice-aggregate-print-line
-    print-line-requires
-    returns
+    slice-aggregate-put-line
+    put-line-requires
+    is-last-requires
     loop-less
     loop-again
+    returns
     returns-2)

@@ -1,13 +1,15 @@
-use Prim.Native.Nat.{_≤_}
-use mathlib.Core.Path.{refl, ap, _∙_}
-use mathlib.Core.Logic.{inr}
+use Prim.Native.Nat.{ℕ, _≤_}
+use mathlib.Core.Path.{ap, sym, _∙_}
+use mathlib.Core.List.{List, _++_}
 use native.Mathlib.Omega.{arith}
 use borrow.Author.Needs.{needs}
+use Rattle.riff.specs.Header.{waveHeaderOf}
 use Rattle.clip.specs.declared.Counted.{Counted}
+use Rattle.clip.specs.Frames.{clipOf}
 use Rattle.clip.specs.Turns.{few-in-clip}
 use Rattle.clip.specs.Rates.{clip-rate-small}
-use Rattle.riff.specs.Header.{waveHeaderOf}
-use Rattle.clip.specs.File.{header-part}
+use Rattle.clip.specs.File.{frameParts, joined, waveOf, header-first}
+use Rattle.scribe.specs.Next.{Rest, nothing-written, rest-next, rest-behind}
 use Rattle.wav.proofs.put_file.Statement.{statement}
 use Rattle.wav.proofs.put_file.Tie as tie
 
@@ -18,6 +20,16 @@ small c =
     let e = c .before .count .ensures in
     (omega (arith, ap (λ (x : Counted). x .frames) e, few-in-clip s), omega (arith, ap (λ (x : Counted). x .rate) e, clip-rate-small s))
 
+-- the header comes first, and behind it the frames
+begun : (c : tie.After-nothing-yet) → let s = c .before .before .before .before .before .args .stream .now in
+    Rest (waveOf s) (c .nothing-yet .result .bytes) (c .before .header .result ++ joined (frameParts (clipOf s)))
+begun c =
+    let counted = c .before .before .before in
+    let entry = counted .before .before in
+    let s = entry .args .stream .now in
+    let is = c .before .header .ensures .0 ∙ ap (λ (x : Counted). waveHeaderOf (x .frames) (x .rate)) (counted .count .ensures) in
+    nothing-written (c .nothing-yet .ensures .0) (header-first s (entry .pre) ∙ ap (λ (header : List ℕ). header ++ joined (frameParts (clipOf s))) (sym is))
+
 count-requires : tie.Need-count-requires
 count-requires c κs = search needs
 
@@ -27,23 +39,32 @@ cast-header c = record { fits = omega (arith, small c .0) }
 header-requires : tie.Need-header-requires
 header-requires c κs = (omega (arith, small c .0), omega (arith, small c .1))
 
-slice-aggregate-put : tie.Need-slice-aggregate-put
-slice-aggregate-put c = search needs
+nothing-yet-requires : tie.Need-nothing-yet-requires
+nothing-yet-requires c κs = search needs
 
-put-requires : tie.Need-put-requires
-put-requires c κs =
-    let p = header-part (c .before .before .before .before .before .args .stream .now) in
-    let e = c .before .before .before .count .ensures in
-    (p .0, c .before .header .ensures .0 ∙ ap (λ (x : Counted). waveHeaderOf (x .frames) (x .rate)) e ∙ p .1)
+slice-aggregate-put-wave : tie.Need-slice-aggregate-put-wave
+slice-aggregate-put-wave c = search needs
+
+put-wave-requires : tie.Need-put-wave-requires
+put-wave-requires c κs =
+    let yet = c .before in
+    (omega (arith, yet .nothing-yet .ensures .0, yet .before .header .ensures .1), rest-next (yet .before .header .result) _ (begun yet))
 
 put-frames-requires : tie.Need-put-frames-requires
-put-frames-requires c κs = ap (λ (x : Counted). x .frames) (c .before .before .before .before .before .count .ensures)
+put-frames-requires c κs =
+    let yet = c .before .before in
+    let counted = yet .before .before .before in
+    let put = c .put-wave .ensures in (
+      (
+        counted .before .before .pre,
+        ap (λ (x : Counted). x .frames) (counted .count .ensures),
+        omega (arith, put, yet .nothing-yet .ensures .0, yet .before .header .ensures .1),
+      ),
+      rest-behind (yet .before .header .result) _ put (begun yet),
+    )
 
 returns : tie.Need-returns
 returns c = search needs
-
-returns-2 : tie.Need-returns-2
-returns-2 c = inr refl
 
 pub put-file-spec : {M : Type 1} → statement M
 put-file-spec =
@@ -52,8 +73,8 @@ put-file-spec =
     count-requires
     cast-header
     header-requires
-    slice-aggregate-put
-    put-requires
+    nothing-yet-requires
+    slice-aggregate-put-wave
+    put-wave-requires
     put-frames-requires
-    returns
-    returns-2)
+    returns)

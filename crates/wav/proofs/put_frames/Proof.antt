@@ -1,28 +1,31 @@
-use Prim.Native.Nat.{ℕ, suc, _-_, _<_, _≤_}
+use Prim.Native.Nat.{ℕ, suc, _+_, _-_, _*_, _<_, _≤_}
 use native.Mathlib.Numerals.{add-one}
-use mathlib.Core.Path.{_≡_, refl, _∙_}
-use mathlib.Core.Logic.{inl, inr}
-use mathlib.Core.List.{List}
+use mathlib.Core.Path.{_≡_, ap, sym, subst, _∙_}
+use mathlib.Core.List.{List, _++_}
 use native.Mathlib.Omega.{arith}
 use lib.Ieee.{ofBits}
 use lib.ListN.{length, drop, getD}
 use borrow.Author.Needs.{needs}
 use Rattle.synthesis.specs.Slots.{memoryLength, outputLength}
+use Rattle.riff.specs.Level.{pcmOf}
 use Rattle.clip.specs.Frames.{Turn, clipOf, heardOf}
 use Rattle.clip.specs.Turns.{foundIn, behind, heard-next, few-in-clip, begins, found-at}
-use Rattle.clip.specs.File.{frame-part, part-count}
+use Rattle.clip.specs.File.{frameParts, joined, waveOf, frame-first, none-behind}
+use Rattle.scribe.specs.Next.{Next, Rest, rest-next, rest-behind, all-written}
 use Rattle.wav.proofs.put_frames.Statement.{statement}
 use Rattle.wav.proofs.put_frames.Tie as tie
 
+-- what is left to write are the frames that are left to play
 abbrev Inv-loop : tie.InvT-loop
-Inv-loop stream frames memory₀ output₀ bytes₀ playing₀ i₀ memory output bytes playing i =
+Inv-loop stream frames memory₀ output₀ bytes₀ playing₀ told₀ i₀ memory output bytes playing told i =
     (length memory ≡ memoryLength) × (length output ≡ outputLength) × (length bytes ≡ 4608)
     × (i ≤ frames) × (drop i (clipOf stream) ≡ heardOf (playing .calls) stream memory output (playing .state))
+    × (told .bytes ≡ 44 + 4608 * i) × Rest (waveOf stream) (told .bytes) (joined (frameParts (drop i (clipOf stream))))
 
 abbrev μ-loop : tie.MeasureT-loop
-μ-loop stream frames memory₀ output₀ bytes₀ playing₀ i₀ memory output bytes playing i = frames - i
+μ-loop stream frames memory₀ output₀ bytes₀ playing₀ told₀ i₀ memory output bytes playing told i = frames - i
 
--- the places of a turn: its end at a part that is written, its call of `next`, its head; and the entry's stream
+-- the places of a turn: its call of `next`, its head; and the entry's stream
 abbrev at-next : tie.After-write-samples Inv-loop μ-loop → tie.After-next Inv-loop μ-loop
 at-next c = c .before .before .before .before .before
 
@@ -44,6 +47,11 @@ found c =
     let h = found-at _ _ _ _ _ inside (l .inv .4 ∙ heard-next _ _ _ _ _ _ _ _ (e .0) (e .1 .0) (e .1 .1)) in
     (inside, h .0, h .1)
 
+-- it comes next, and then the other frames
+left-at : (c : tie.After-next Inv-loop μ-loop) → let l = at-loop c .loop in let s = stream-at (at-loop c) in
+    Rest (waveOf s) (l .told .bytes) (pcmOf (c .next .last .1 .1 .1 .0) ++ joined (frameParts (drop (suc (l .i)) (clipOf s))))
+left-at c = let h = found c in subst (Rest _ _) (frame-first _ _ _ (h .0) (h .1)) (at-loop c .loop .inv .6)
+
 slice-aggregate-start : tie.Need-slice-aggregate-start Inv-loop μ-loop
 slice-aggregate-start c = search needs
 
@@ -52,7 +60,10 @@ start-requires c κs = search needs
 
 loop-holds : tie.Need-loop-holds Inv-loop μ-loop
 unfolding ofBits
-loop-holds c = let e = c .before .start .ensures in (search needs, search needs, search needs, omega arith, begins _ _ _ (e .0) (e .1))
+loop-holds c =
+    let entry = c .before .before .before .before in
+    let e = c .before .start .ensures in
+    (search needs, search needs, search needs, omega arith, begins _ _ _ (e .0) (e .1), entry .pre .0 .2, entry .pre .1)
 
 slice-aggregate-next : tie.Need-slice-aggregate-next Inv-loop μ-loop
 slice-aggregate-next c = search needs
@@ -72,17 +83,20 @@ slice-aggregate-write-samples-2 c = search needs
 write-samples-requires : tie.Need-write-samples-requires Inv-loop μ-loop
 write-samples-requires c κs = search needs
 
-add-put : tie.Need-add-put Inv-loop μ-loop
-add-put c = search needs
+slice-aggregate-put-wave : tie.Need-slice-aggregate-put-wave Inv-loop μ-loop
+slice-aggregate-put-wave c = search needs
 
-slice-aggregate-put : tie.Need-slice-aggregate-put Inv-loop μ-loop
-slice-aggregate-put c = search needs
-
-put-requires : tie.Need-put-requires Inv-loop μ-loop
-put-requires c κs =
-    let h = found (at-next (c .before .before)) in
-    let p = frame-part _ _ _ (h .0) (h .1) in
-    (p .0, c .before .before .write-samples .ensures ∙ p .1)
+put-wave-requires : tie.Need-put-wave-requires Inv-loop μ-loop
+put-wave-requires c κs =
+    let made = c .before .before in
+    let turn = at-next made in
+    let head = at-loop turn in
+    let entry = head .before .before .before .before .before in
+    let next = rest-next (pcmOf (turn .next .last .1 .1 .1 .0)) _ (left-at turn) in
+    let is = made .write-samples .ensures in (
+      omega (arith, head .loop .inv .5, entry .pre .0, few-in-clip (entry .args .stream .now), ap length is),
+      subst (Next _ _) (sym is) next,
+    )
 
 add-i : tie.Need-add-i Inv-loop μ-loop
 add-i c = search needs
@@ -92,21 +106,27 @@ loop-less c = search needs
 
 loop-again : tie.Need-loop-again Inv-loop μ-loop
 loop-again c =
-    let at-write = c .before .before .before .before .before in
-    let turn = at-next at-write in
-    (search needs, search needs, search needs, omega arith, rw (add-one (at-loop turn .loop .i)) (found turn .2))
+    let put = c .before in
+    let made = put .before .before .before in
+    let turn = at-next made in
+    let head = at-loop turn in
+    let l = head .loop in
+    let is = made .write-samples .ensures in
+    let on = put .put-wave .ensures ∙ ap (λ bytes. l .told .bytes + length bytes) is in (
+      search needs,
+      search needs,
+      search needs,
+      omega arith,
+      rw (add-one (l .i)) (found turn .2),
+      omega (arith, put .put-wave .ensures, l .inv .5),
+      rw (add-one (l .i)) (rest-behind (pcmOf (turn .next .last .1 .1 .1 .0)) _ on (left-at turn)),
+    )
 
 returns : tie.Need-returns Inv-loop μ-loop
-returns c = inr refl
-
-add-result : tie.Need-add-result Inv-loop μ-loop
-add-result c =
-    let head = c .before in
-    let entry = head .before .before .before .before .before in
-    record { fits = omega (arith, entry .good .0, few-in-clip (entry .args .stream .now)) }
-
-returns-2 : tie.Need-returns-2 Inv-loop μ-loop
-returns-2 c = inl (omega (arith, part-count (stream-at (c .before))))
+returns c =
+    let l = c .before .loop in
+    let all : l .i ≡ length (clipOf (stream-at (c .before))) = omega arith in
+    all-written (subst (Rest _ _) (none-behind _ _ all) (l .inv .6))
 
 pub put-frames-spec : {M : Type 1} → statement M
 put-frames-spec =
@@ -123,12 +143,9 @@ put-frames-spec =
     slice-aggregate-write-samples
     slice-aggregate-write-samples-2
     write-samples-requires
-    add-put
-    slice-aggregate-put
-    put-requires
+    slice-aggregate-put-wave
+    put-wave-requires
     add-i
     loop-less
     loop-again
-    returns
-    add-result
-    returns-2)
+    returns)

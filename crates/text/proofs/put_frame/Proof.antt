@@ -1,0 +1,62 @@
+use mathlib.Core.List.{_++_}
+use native.Mathlib.Omega.{arith}
+use lib.ListN.{length-append}
+use borrow.Author.Needs.{needs}
+use Rattle.listing.specs.Text.{frameWord, atWord, numbered, formatText, frameText, listingOf}
+use Rattle.scribe.specs.Next.{Next, first-next, second-next}
+use Rattle.text.proofs.put_frame.Statement.{statement}
+use Rattle.text.proofs.put_frame.Tie as tie
+
+behind-number : (c : tie.After-put-number) → let a = c .before .before .before .args in
+    Next (listingOf (a .marked) (a .stream .now)) (c .put-number .result .bytes)
+    (numbered atWord (a .at) ++ formatText (a .rate) (a .kbps) (a .mode) (a .bits))
+unfolding frameText
+behind-number c =
+    let entry = c .before .before .before in second-next (numbered frameWord (entry .args .number)) _ (c .put-number .ensures) (entry .pre .1)
+
+slice-aggregate-put-number : tie.Need-slice-aggregate-put-number
+slice-aggregate-put-number c = search needs
+
+put-number-requires : tie.Need-put-number-requires
+unfolding frameText
+put-number-requires c κs = let entry = c .before .before in (entry .pre .0, first-next _ _ (entry .pre .1))
+
+slice-aggregate-put-number-2 : tie.Need-slice-aggregate-put-number-2
+slice-aggregate-put-number-2 c = search needs
+
+put-number-requires-2 : tie.Need-put-number-requires-2
+put-number-requires-2 c κs = (c .before .before .before .before .pre .0, first-next _ _ (behind-number (c .before)))
+
+put-format-requires : tie.Need-put-format-requires
+put-format-requires c κs =
+    let numbered-only = c .before .before in
+    let entry = numbered-only .before .before .before in
+    (entry .pre .0, second-next (numbered atWord (entry .args .at)) _ (c .put-number2 .ensures) (behind-number numbered-only))
+
+returns : tie.Need-returns
+unfolding frameText
+returns c =
+    let placed = c .before in
+    let numbered-only = placed .before .before in
+    let a = numbered-only .before .before .before .args in
+    let third = formatText (a .rate) (a .kbps) (a .mode) (a .bits) in
+    let second = numbered atWord (a .at) in
+    omega (
+      arith,
+      c .put-format .ensures,
+      placed .put-number2 .ensures,
+      numbered-only .put-number .ensures,
+      length-append (numbered frameWord (a .number)) (second ++ third),
+      length-append second third,
+    )
+
+pub put-frame-spec : {M : Type 1} → statement M
+put-frame-spec =
+    tie.close
+    (tie.spec
+    slice-aggregate-put-number
+    put-number-requires
+    slice-aggregate-put-number-2
+    put-number-requires-2
+    put-format-requires
+    returns)
