@@ -1,12 +1,11 @@
 -- Demand 3's premises can be met: two decoders opened on 01's frame of zeros, FF FD A0 00 and 622 zero bytes, with any two memories and
 -- outputs, accept it, agree, and both use 188 bits. Assumes nothing.
-use Prim.Native.Nat.{ℕ, _+_, _-_, _*_, _%_, _≤_, _<_}
+use Prim.Native.Nat.{ℕ, _+_, _*_, _%_, _≤_, _<_}
 use mathlib.Core.Path.{_≡_, refl, sym, ap, _∙_}
-use mathlib.Core.Bool.{true, false}
+use mathlib.Core.Bool.{true}
 use mathlib.Core.List.{List}
 use lib.Dec.{lit≤}
-use lib.IntN.{pos}
-use lib.Ieee.{Float, fin, isNan, toBits, ofInt, div}
+use lib.Ieee.{Float, isNan, toBits, ofInt, div}
 use lib.ListN.{length}
 use borrow.Author.Tests.{le-ltb}
 use Rattle.ground.specs.First.{firstFrom}
@@ -17,20 +16,20 @@ use Rattle.grammar.specs.Reads.{_>>=_, run, called}
 use Rattle.grammar.specs.Widths.{Agree}
 use Rattle.header.specs.Header.{headerOf, startOf, syncOf, fieldsOf, identOf, ratesOf, restOf, modeOf, boundOf, checkOf, sizeOf}
 use Rattle.codes.specs.Rows.{zeros, row-188}
-use Rattle.frame.specs.Frame.{codesIn, granulesAt}
+use Rattle.frame.specs.Frame.{codesIn}
 use Rattle.clock.specs.Clock.{sameBits, onTime, startTimeOf}
 use Rattle.header.specs.Readings.{plain}
 use Rattle.state.specs.State.{fresh, numbersOk, inRange, pends}
 use Rattle.verdict.specs.Verdict.{asked, attemptOf, headedOf, enoughOf, readyOf, atOnceOf}
-use Rattle.audio.specs.Calls.{afterOf, framedOf, decodeOf, openOf, openMemory, noRoomOf}
+use Rattle.audio.specs.Calls.{openOf, openMemory, noRoomOf}
 use Rattle.state.specs.declared.Audio.{Audio}
 use Rattle.verdict.specs.declared.Asked.{Asked}
 use Rattle.verdict.specs.declared.Heading.the-variants.{Known}
 use Rattle.past.specs.Pasts.{Past, opened}
-use Rattle.past.specs.Calls.{Call, newOutput, sample, before, frameState, firstBit, bitsCalled, Accepts}
+use Rattle.past.specs.Calls.{Call, newOutput, sample, before, frameState, firstBit, bitsCalled, Accepts, known-accepted}
 use Rattle.past.specs.Ring.{memory-kept-long}
 use Rattle.claims.specs.Widths.{bits-are-the-widths}
-use Rattle.claims.specs.RingOut.{Agreeing, rings-out}
+use Rattle.claims.specs.RingOut.{Agreeing, agree-on, rings-out}
 
 -- the state after the header
 abbrev pub headed : Audio
@@ -57,18 +56,19 @@ module _ (m o : List Float) (long : memoryLength ≤ length m) (room : outputLen
   pub opened-on-zeros : Past (opening m o .state) (opening m o .memory)
   opened-on-zeros = opened plain zeros m (lit≤ tt) long
 
-  at-header : opening m o .state ≡ headed
+  pub opened-to-header : openOf plain zeros m ≡ asked Known headed
   unfolding openOf noRoomOf
-  at-header = simp (le-ltb _ _ long) (ap (λ (x : Asked). x .state) found)
+  opened-to-header = simp (le-ltb _ _ long) found
+
+  at-header : opening m o .state ≡ headed
+  at-header = ap (λ (x : Asked). x .state) opened-to-header
 
   before-zeros : before (opening m o) ≡ asked Known headed
   unfolding readyOf atOnceOf headedOf enoughOf hasOf
   before-zeros = simp (at-header, le-ltb _ _ (memory-kept-long opened-on-zeros), le-ltb _ _ room, sound)
 
   pub zeros-accepted : Accepts (opening m o)
-  unfolding fresh decodeOf framedOf afterOf
-  zeros-accepted =
-      record { time = fin false 0 (pos 0); bits = granulesAt zeros (readerAt 32) (headed .format) .next .at .0 - 32; answer = rw before-zeros }
+  zeros-accepted = known-accepted (opening m o) headed before-zeros
 
   pub frame-state : frameState (opening m o) ≡ headed
   frame-state = ap (λ (x : Asked). x .state) before-zeros
@@ -76,7 +76,7 @@ module _ (m o : List Float) (long : memoryLength ≤ length m) (room : outputLen
   calls-188 : bitsCalled (opening m o) ≡ 188
   calls-188 = ap (λ (a : Audio). called (codesIn (a .format)) zeros (a .reader)) frame-state ∙ headed-calls
 
-  begins-at-32 : firstBit (opening m o) ≡ 32
+  pub begins-at-32 : firstBit (opening m o) ≡ 32
   begins-at-32 = ap (λ (a : Audio). a .reader .at .0) frame-state
 
   all-there : firstBit (opening m o) + bitsCalled (opening m o) ≤ 8 * length zeros
@@ -89,23 +89,7 @@ pub zeros-agree : (m n o u : List Float) → memoryLength ≤ length m → memor
     → Agreeing (opening m o) (opening n u)
 unfolding Agree
 zeros-agree m n o u lm ln lo lu =
-    let f = frame-state m o lm lo in
-    let g = frame-state n u ln lu in
-    let e : frameState (opening m o) ≡ frameState (opening n u) = f ∙ sym g in
-    record {
-      accepts = zeros-accepted m o lm lo;
-      accepts′ = zeros-accepted n u ln lu;
-      reading = ap (λ (a : Audio). a .format .reading) e;
-      samplerate = ap (λ (a : Audio). a .format .samplerate) e;
-      bitrate = ap (λ (a : Audio). a .format .bitrate) e;
-      mode = ap (λ (a : Audio). a .format .mode) e;
-      extension = 0;
-      bound = rw f;
-      bound′ = rw g;
-      present = all-there m o lm lo;
-      present′ = rw (calls-188 m o lm lo, begins-at-32 n u ln lu) (lit≤ tt);
-      equal = λ i l. ap (λ (a : Audio). bitAt zeros (a .reader .at .0 + i)) e;
-    }
+    agree-on (opening m o) (opening n u) headed (before-zeros m o lm lo) (before-zeros n u ln lu) 0 188 refl headed-calls (lit≤ tt) (lit≤ tt) (λ i l. refl)
 
 -- so demand 3 says of them what it says
 pub zeros-ring-out : (m n o u : List Float) → memoryLength ≤ length m → memoryLength ≤ length n → outputLength ≤ length o → outputLength ≤ length u

@@ -8,7 +8,13 @@ pub mod Rows
 pub mod RingOut
 pub mod Mono
 pub mod Wave
+pub mod Lister
+pub mod OnBytes
 pub mod Occur
 pub mod Example
+pub mod ThreeLines
 pub mod Silence
+pub mod Clips
+pub mod LegalFrames
+pub mod Sharp
 pub mod Promises

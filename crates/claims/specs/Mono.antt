@@ -38,9 +38,9 @@ use Rattle.verdict.specs.declared.Heading.{Heading}
 use Rattle.verdict.specs.declared.Heading.the-variants.{Known, Refused}
 use Rattle.clip.specs.Frames.{Heard, quiet, clipOf}
 use Rattle.clip.specs.File.{fileOf}
-use Rattle.past.specs.Pasts.{Past, opened, asked, rated, decoded, refused}
+use Rattle.past.specs.Pasts.{Past, opened, asked, rated, decoded, refused, relent}
 use Rattle.past.specs.Calls.{Call, outcome, newMemory, newOutput, sample, before, frameState, Accepts, granulesIn, known-leaves, accepted-known, accepted-leaves}
-use Rattle.past.specs.Ring.{ring-in-place, memory-kept-long}
+use Rattle.past.specs.Ring.{ring-in-place, memory-kept-long, relent-rings}
 use Rattle.past.specs.Finite.{opened-each}
 use Rattle.frame.specs.FrameLaws.{granule-of}
 use Rattle.past.specs.Sound.{sound-state-in-range, sound, frame-has-extension}
@@ -108,8 +108,11 @@ mono-rings (rated p) mono = mono-rings p mono
 mono-rings (decoded {a} {m} p s o) mono =
     let c : Call = record { stream = s; memory = m; output = o; state = a } in
     decoded-rings c p (mono-rings p (was-mono (format-stays c) mono)) mono
-mono-rings (refused {a} {m} p s o short l) mono =
-    mono-rings p (was-mono (format-stays (record { stream = s; memory = short; output = o; state = a })) mono)
+mono-rings (refused {a} {m} p s other o n e) mono =
+    mono-rings p (was-mono (format-stays (record { stream = s; memory = other; output = o; state = a })) mono)
+mono-rings (relent {a} {m} p more) mono =
+    let long = memory-kept-long p in
+    relent-rings m long 0 (omega arith) more ∙ mono-rings p mono ∙ sym (relent-rings m long 1 (omega arith) more)
 
 -- ---- the sound
 

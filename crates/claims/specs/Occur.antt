@@ -1,9 +1,9 @@
 -- The promises' premises can be met: each number of decode's table occurs, on small streams and states, computed; calls are lent
 -- enough; and there are pasts. Assumes nothing.
-use Prim.Native.Nat.{ℕ, _<_}
+use Prim.Native.Nat.{ℕ}
 use mathlib.Core.Path.{_≡_, refl}
 use mathlib.Core.Bool.{false}
-use mathlib.Core.List.{List, [], _∷_, _++_}
+use mathlib.Core.List.{List, [], _∷_, _++_, map}
 use native.Mathlib.Omega.{arith}
 use lib.IntN.{pos}
 use lib.Ieee.{Float, fin, isNan, toBits, div, ofInt, round, units, odd, size}
@@ -20,9 +20,10 @@ use Rattle.clock.specs.Clock.{startTimeOf, sameBits, onTime}
 use Rattle.header.specs.Readings.{plain}
 use Rattle.state.specs.State.{fresh, numbersOk, inRange, pends, framedTo}
 use Rattle.verdict.specs.Verdict.{attemptOf, headedOf, enoughOf, readyOf, atOnceOf}
-use Rattle.audio.specs.Calls.{answering, afterOf, framedOf, decodeOf, blank, openOf, openMemory, noRoomOf}
+use Rattle.audio.specs.Calls.{answering, afterOf, framedOf, decodeOf, blank, openOf, openMemory, noRoomOf, hasHeaderOf, samplerateOf}
 use Rattle.audio.specs.Numbers.{headingNumber, answerNumber}
 use Rattle.state.specs.declared.Audio.{Audio}
+use Rattle.audio.specs.declared.Rate.the-variants.{Hertz, Refused as RateRefused}
 use Rattle.verdict.specs.declared.Heading.{Heading}
 use Rattle.verdict.specs.declared.Heading.the-variants.{Known, Refused}
 use Rattle.listing.specs.Lines.{nextOf}
@@ -71,6 +72,28 @@ unfolding readyOf atOnceOf headedOf attemptOf enoughOf fresh inRange numbersOk o
     modeOf boundOf checkOf sizeOf
 numbers-occur = refl
 
+-- an opening gives 0 to 5 and 9 (memory only), a question 0 to 5 and 10, samplerate a rate, none, and 10
+abbrev firsts : List (List ℕ)
+firsts =
+    (header ++ replicate 2 0) ∷ [] ∷ (1 ∷ replicate 5 0) ∷ (0xFF ∷ 0xFB ∷ replicate 4 0) ∷ (0xFF ∷ 0xFD ∷ replicate 4 0)
+    ∷ (0xFF ∷ 0xFD ∷ 0xAC ∷ replicate 3 0) ∷ []
+
+pub openings-occur : map (λ s. headingNumber (openOf plain s (quiet 2048) .answer)) firsts ++ (headingNumber (openOf plain [] (quiet 2047) .answer) ∷ [])
+    ≡ 0 ∷ 1 ∷ 2 ∷ 3 ∷ 4 ∷ 5 ∷ 9 ∷ []
+unfolding openOf noRoomOf attemptOf fresh headerOf startOf syncOf seekOf searchOf hasOf skipBytesOf fieldOf readOf bitsValue bitAt firstFrom run _>>=_
+    fieldsOf identOf ratesOf restOf modeOf boundOf checkOf sizeOf
+openings-occur = refl
+
+pub questions-occur : map (λ s. headingNumber (hasHeaderOf s (fresh plain) .answer)) firsts ++ (headingNumber (hasHeaderOf [] broken .answer) ∷ [])
+    ≡ 0 ∷ 1 ∷ 2 ∷ 3 ∷ 4 ∷ 5 ∷ 10 ∷ []
+unfolding hasHeaderOf attemptOf fresh inRange numbersOk onTime sameBits startTimeOf isNan toBits div ofInt headerOf startOf syncOf seekOf searchOf hasOf
+    skipBytesOf fieldOf readOf bitsValue bitAt firstFrom run _>>=_ fieldsOf identOf ratesOf restOf modeOf boundOf checkOf sizeOf
+questions-occur = refl
+
+pub rates-occur : samplerateOf begun ∷ samplerateOf (fresh plain) ∷ samplerateOf broken ∷ [] ≡ Hertz 44100 ∷ Hertz 0 ∷ RateRefused 10 ∷ []
+unfolding samplerateOf fresh inRange numbersOk onTime sameBits startTimeOf isNan toBits div ofInt
+rates-occur = refl
+
 -- 192 kbps, 48,000 Hz, stereo, and no data
 abbrev pub cut : List ℕ
 cut = 0xFF ∷ 0xFD ∷ 0xA4 ∷ replicate 3 0
@@ -92,10 +115,11 @@ long-length = length-table 16777217 (λ _. 0)
 
 pub eight-occurs : (memory output : ℕ) (a : Audio) → verdict long memory output a ≡ 8
 unfolding readyOf atOnceOf
-eight-occurs memory output a = simp (lt-ltb 16777216 (length long) many)
-  where
-    many : 16777216 < length long
-    many = omega (arith, long-length)
+eight-occurs memory output a = simp (lt-ltb 16777216 (length long) (omega (arith, long-length)))
+
+pub eight-occurs-first : (memory : List Float) (a : Audio) → (openOf plain long memory .answer ≡ Refused 8) × (hasHeaderOf long a .answer ≡ Refused 8)
+unfolding openOf noRoomOf hasHeaderOf
+eight-occurs-first memory a = let many = lt-ltb 16777216 (length long) (omega (arith, long-length)) in (simp many, simp many)
 
 -- ---- a call that is lent enough, and a past
 

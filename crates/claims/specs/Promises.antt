@@ -4,14 +4,14 @@ use Prim.Native.Nat.{ℕ, _+_, _*_, _%_, _≤_, _<_}
 use mathlib.Core.Path.{_≡_}
 use mathlib.Core.Bool.{true, false}
 use mathlib.Core.List.{List}
-use lib.IntN.{pos}
+use lib.IntN.{ℤ, pos}
 use lib.Ieee.{Float, fin, nan}
 use lib.ListN.{length, getD}
 use Rattle.ground.specs.Rows.{TableOf}
 use Rattle.synthesis.specs.Slots.{memoryLength}
-use Rattle.buffer.specs.Bits.{longestStream}
-use Rattle.buffer.specs.Calls.{readerAt}
-use Rattle.header.specs.Header.{headerOf, differs}
+use Rattle.buffer.specs.Bits.{longestStream, farthestBit}
+use Rattle.buffer.specs.declared.Reader.{Reader}
+use Rattle.header.specs.Header.{headerOf}
 use Rattle.header.specs.declared.Format.{Format}
 use Rattle.header.specs.declared.Header.the-variants.{Accepted}
 use Rattle.header.specs.declared.Reading.{Reading}
@@ -23,19 +23,23 @@ use Rattle.audio.specs.Calls.{openOf, openMemory, hasHeaderOf, samplerateOf, de
 use Rattle.audio.specs.Numbers.{headingNumber, rateNumber, answerNumber, ends}
 use Rattle.audio.specs.declared.Answer.the-variants.{Refused}
 use Rattle.audio.specs.declared.Decoded.{Decoded}
-use Rattle.standard.specs.Made.{samplesBy01}
-use Rattle.standard.specs.Alike.{Unlisted}
-use Rattle.standard.specs.Headers.{HeaderFields, format, standardSize}
+use Rattle.tables.specs.Standard.{Table, stepsOf}
+use Rattle.tables.specs.Differences.{differsAt}
+use Rattle.standard.specs.Header.{HeaderFields, allocationTable}
+use Rattle.alike.specs.Replaced.{Listed, the-list, replaced}
+use Rattle.alike.specs.Frames.{Unlisted}
+use Rattle.alike.specs.Headers.{Follows, Reaches, AcceptedAt, the-standards-header, StandardsHeader, an-accepted-header}
 use Rattle.past.specs.Pasts.{Past}
-use Rattle.past.specs.Calls.{Call, outcome, newMemory, newOutput, sample, frameState, firstBit, bitsCalled, Accepts, granulesIn, endOf}
+use Rattle.past.specs.Calls.{Call, outcome, newMemory, newOutput, sample, frameState, firstBit, bitsCalled, Accepts, endOf}
 use Rattle.past.specs.Sound.{sound-state-in-range, time-by-frames}
 use Rattle.past.specs.Finite.{BitForBit}
 use Rattle.claims.specs.Numbers.{Decodes, decode-table, Opens, open-table, Asks, has-header-table, Rated, samplerate-table}
 use Rattle.claims.specs.Untouched.{refused-call-leaves-all, opening-clears}
-use Rattle.claims.specs.Settled.{Settled, an-end-lasts}
-use Rattle.claims.specs.Standard.{tableFor, boundIn, standardsReading, standard-is-accepted, accepted-as-the-standard}
+use Rattle.claims.specs.Settled.{Rests, an-end-lasts}
+use Rattle.claims.specs.Standard.{readingOver, ReadAs, unlisted-reads-the-same, ReadByItsFormat, accepted-as-the-standard, On, StandardsFrame, accepted-frames-are-the-standards}
 use Rattle.claims.specs.Widths.{bits-are-the-movement, bits-are-the-widths}
-use Rattle.claims.specs.RingOut.{Agreeing, Together, same-bits-used, rings-out-bit-for-bit, every-later-sample-bit-for-bit}
+use Rattle.claims.specs.RingOut.{Agreeing, Together, same-bits-used, rings-out-bit-for-bit, whatever-the-memories, every-later-sample-bit-for-bit}
+use Rattle.claims.specs.Sharp.{TellsApart, rings-on-for-15-blocks}
 
 pub record Demand1 : Type 0 where
   -- "Every stream, buffer and saved state gets a definite answer and the call ends." "Each refusal has its number."
@@ -47,7 +51,7 @@ pub record Demand1 : Type 0 where
   -- "Nothing relies on the caller having looked first."
   pub no-call-leads-out-of-range : {a : Audio} {m : List Float} → Past a m → inRange a ≡ true
   pub an-end-is-one-for-ever : (s : List ℕ) (m o : List Float) (a : Audio) → let x = decodeOf s m o a in
-      ends (answerNumber (x .answer)) ≡ true → Settled s (answerNumber (x .answer)) (x .state)
+      ends (answerNumber (x .answer)) ≡ true → Rests s (answerNumber (x .answer)) (x .state)
   -- "A refused call leaves the samples untouched, and the synthesis memory too,"
   pub refused-leaves-all : (c : Call) (n : ℕ) → outcome c .answer ≡ Refused n → (newMemory c ≡ c .memory) × (newOutput c ≡ c .output)
   -- "but that an opening which only found no good header still clears the memory."
@@ -71,16 +75,24 @@ pub record Demand2 : Type 0 where
   -- "Frames, bits, samples and start times equal the Rust's": the definitions are after the Rust, and compared with it by running
   pub bits-are-how-far-it-moves : {c : Call} (ok : Accepts c) → endOf c .at .0 ≡ firstBit c + ok .bits
   pub bits-are-the-sum-of-widths : {c : Call} (ok : Accepts c) → firstBit c + bitsCalled c ≤ 8 * length (c .stream) → ok .bits ≡ bitsCalled c
-  pub start-time-by-frames : {a : Audio} {m : List Float} → Past a m → a .time ≡ startTimeOf (a .frames) (a .format .samplerate)
-  -- "Header, .."
-  pub headers-are-the-standards : (s : List ℕ) (byte : ℕ) → length s ≤ longestStream → 8 * byte + 48 ≤ 8 * length s → HeaderFields s (byte * 8)
-      → (known : Format) → let f = format s byte (known .reading) in differs known (f .bitrate) (f .samplerate) (f .mode) ≡ false
-      → headerOf s (readerAt (byte * 8)) known .header ≡ Accepted f (standardSize s byte)
-  -- "allocation, scale factors and sample codes are proved against a definition written from ISO/IEC 11172-3 Layer II;"
-  -- "where Rust and standard part, the list says so": `Unlisted` is its one entry of the tables
-  pub codes-are-the-standards : (c : Call) → Accepts c → let f = frameState c .format in
-      let x = standardsReading (c .stream) (frameState c .reader) f in
-      Unlisted (tableFor f) (x .value .allocation) → (granulesIn c ≡ samplesBy01 (tableFor f) (boundIn f) (x .value)) × (endOf c ≡ x .next)
+  pub start-time-by-frames : {c : Call} → Past (c .state) (c .memory) → (ok : Accepts c)
+      → ok .time ≡ startTimeOf (c .state .frames) (frameState c .format .samplerate)
+  -- "Header, ..": the standard's, in a stream of bytes, is accepted by the attempt that reaches it, with its fields, bound and frame size ..
+  pub headers-are-the-standards : (s : List ℕ) → ((j : ℕ) → getD s j 0 < 256) → (r : Reader) (byte : ℕ) → Reaches s r byte → length s ≤ longestStream
+      → 8 * byte + 48 ≤ 8 * length s → HeaderFields s byte → (known : Format) → Follows known s byte → AcceptedAt s r byte known
+  -- .. and an accepted one, where its bits are there, is one of the standard's
+  pub only-the-standards-headers : (s : List ℕ) (r : Reader) → length s ≤ longestStream → (known : Format) → r .at .0 ≤ farthestBit
+      → {f : Format} {size : ℕ} → headerOf s r known .header ≡ Accepted f size → StandardsHeader s r f size (headerOf s r known .next)
+  -- "allocation, scale factors and sample codes are proved against a definition written from ISO/IEC 11172-3 Layer II;": every accepted
+  -- frame is read as the standard lists it, over its tables with the listed entry replaced ..
+  pub codes-are-the-standards : {c : Call} → Past (c .state) (c .memory) → Accepts c → ReadByItsFormat c
+  -- .. and where all calls since opening were on one stream, behind a header of the standard that stands in it
+  pub frames-are-the-standards : {c : Call} (past : Past (c .state) (c .memory)) → On (c .stream) past → Accepts c → StandardsFrame c
+  -- "where Rust and standard part, the list says so.": four places of the tables, and where none of them is read, nothing is replaced
+  pub the-list-has-four : (t : Table) (sb allocation : ℕ) → differsAt t sb allocation ≡ true → Listed t sb allocation
+  pub else-the-standards-own : {s : List ℕ} {r : Reader} {mode extension index frequency : ℕ} {granules : List (List ℤ)} {end : Reader}
+      → Unlisted (allocationTable mode index frequency) (readingOver stepsOf s r mode extension index frequency .value .allocation)
+      → ReadAs replaced s r mode extension index frequency granules end → ReadAs stepsOf s r mode extension index frequency granules end
 
 pub demand-2 : Demand2
 demand-2 =
@@ -88,8 +100,12 @@ demand-2 =
       bits-are-how-far-it-moves = bits-are-the-movement;
       bits-are-the-sum-of-widths = bits-are-the-widths;
       start-time-by-frames = time-by-frames;
-      headers-are-the-standards = standard-is-accepted;
+      headers-are-the-standards = the-standards-header;
+      only-the-standards-headers = an-accepted-header;
       codes-are-the-standards = accepted-as-the-standard;
+      frames-are-the-standards = accepted-frames-are-the-standards;
+      the-list-has-four = the-list;
+      else-the-standards-own = unlisted-reads-the-same;
     }
 
 pub record Demand3 : Type 0 where
@@ -100,9 +116,21 @@ pub record Demand3 : Type 0 where
   -- "and samples 481 to 1,152 of each channel are equal bit for bit."
   pub rings-out : {c d : Call} → Past (c .state) (c .memory) → Past (d .state) (d .memory) → c .state .frames % 4 ≡ d .state .frames % 4
       → Agreeing c d → (channel k : ℕ) → channel < 2 → 481 ≤ k → k ≤ 1152 → BitForBit (sample (newOutput c) channel k) (sample (newOutput d) channel k)
+  -- so it is for any two memories at one ring position, whatever they hold
+  pub whatever-the-memories-hold : {c d : Call} → Agreeing c d → c .state .ring ≡ d .state .ring
+      → (channel k : ℕ) → channel < 2 → 481 ≤ k → k ≤ 1152 → sample (newOutput c) channel k ≡ sample (newOutput d) channel k
+  -- "It rings on for 15 blocks of 32 samples": and not for fewer
+  pub rings-on : (c : Call) × (d : Call) × TellsApart c d
   -- "While the accepted frames go on agreeing so, with no opening and no other writing between, every later sample is equal too."
   pub every-later-sample : {c d : Call} → Together (c .state) (c .memory) (d .state) (d .memory) → Agreeing c d
       → (channel k : ℕ) → channel < 2 → 1 ≤ k → k ≤ 1152 → BitForBit (sample (newOutput c) channel k) (sample (newOutput d) channel k)
 
 pub demand-3 : Demand3
-demand-3 = record { same-bits = same-bits-used; rings-out = rings-out-bit-for-bit; every-later-sample = every-later-sample-bit-for-bit }
+demand-3 =
+    record {
+      same-bits = same-bits-used;
+      rings-out = rings-out-bit-for-bit;
+      whatever-the-memories-hold = whatever-the-memories;
+      rings-on = rings-on-for-15-blocks;
+      every-later-sample = every-later-sample-bit-for-bit;
+    }

@@ -1,14 +1,16 @@
 -- The reader's eight calls by 01's table: 8, 10, 11, 12 in this order, each given exactly when. Every call begins with 8 and 10; `read`
 -- alone goes on to 11 and 12, and a search that finds nothing is answered. Assumes nothing.
-use Prim.Native.Nat.{ℕ, _+_, _-_, _*_, _/_, _≤_, _<_}
-use mathlib.Core.Path.{_≡_, refl, subst, sym}
+use Prim.Native.Nat.{ℕ, zero as none, suc, _+_, _-_, _*_, _/_, _≤_, _<_}
+use mathlib.Core.Path.{_≡_, refl, ap, subst, sym, _∙_}
+use native.Mathlib.Omega.{arith}
 use mathlib.Core.Bool.{cond}
 use mathlib.Core.List.{List}
 use lib.Dec.{eqb, ltb}
 use lib.ListN.{length}
 use borrow.Author.Tests.{lt-ltb, le-ltb, ltb-true, ltb-false}
+use Rattle.ground.specs.First.{first-none}
 use Rattle.ground.specs.Tests.{by-test}
-use Rattle.buffer.specs.Bits.{bitsValue, pastOf, stopOf, longestStream, farthestBit}
+use Rattle.buffer.specs.Bits.{bitsValue, pastOf, pairAt, stopOf, longestStream, farthestBit}
 use Rattle.buffer.specs.Calls.{gate, left, bytePosOf, aligned, readerAt, readOf, hasOf, endedOf, alignOf, skipOf, tellOf, skipBytesOf, searchOf}
 use Rattle.buffer.specs.Numbers.{readNumber, holdsNumber, movedNumber, skippedNumber, toldNumber, syncNumber}
 use Rattle.buffer.specs.declared.Reader.{Reader}
@@ -18,6 +20,7 @@ use Rattle.buffer.specs.declared.Holds.the-variants.{Yes, No, Refused as HoldsR
 use Rattle.buffer.specs.declared.Moved.the-variants.{To, Refused as MovedRefused}
 use Rattle.buffer.specs.declared.Skipped.the-variants.{Bytes, Refused as SkippedRefused}
 use Rattle.buffer.specs.declared.Told.the-variants.{At, Refused as ToldRefused}
+use Rattle.buffer.specs.declared.Sync.{Sync}
 use Rattle.buffer.specs.declared.Sync.the-variants.{Found, Missing, Refused as SyncRefused}
 use Rattle.ground.specs.Rows.{TableOf}
 
@@ -123,3 +126,41 @@ module _ (s : List ℕ) (r : Reader) where
   search-table =
       gate-table s r SyncRefused _ syncNumber (λ _. refl) 0
       (by-test (λ x. syncNumber x ≡ 0) (ltb (stopOf s (r .at .0 / 8)) (length s - 1)) _ _ (λ _. refl) (λ _. refl))
+
+-- ---- "a reader searched again at the end goes one byte further each time, at last to a 10"
+
+-- where a search leaves a reader
+abbrev pub searched : Reader → Sync → Reader
+searched r (Found next) = next
+searched r (Missing next) = next
+searched r (SyncRefused n) = r
+
+unfoldable pub searchedAgain : List ℕ → Reader → ℕ → Reader
+searchedAgain s r none = r
+searchedAgain s r (suc k) = let q = searchedAgain s r k in searched q (searchOf s q)
+
+module _ (s : List ℕ) (short : length s ≤ longestStream) where
+  -- from the last byte on, at byte i
+  one-byte-further : (i : ℕ) → length s ≤ i + 1 → i * 8 ≤ farthestBit → searchOf s (readerAt (i * 8)) ≡ Missing (readerAt ((i + 1) * 8))
+  unfolding searchOf
+  one-byte-further i late near =
+      let from : i * 8 / 8 ≡ i = omega arith in
+      let stop : stopOf s i ≡ i = sym (first-none (pairAt s) (length s - 1) i (stopOf s i) (omega arith) refl) in
+      simp (le-ltb _ _ short, le-ltb _ _ near, from, stop, le-ltb i (length s - 1) (omega arith))
+
+  further-each-time : (i : ℕ) → length s ≤ i + 1 → (k : ℕ) → (i + k) * 8 ≤ farthestBit + 8 → searchedAgain s (readerAt (i * 8)) k ≡ readerAt ((i + k) * 8)
+  unfolding searchedAgain
+  further-each-time i late none near = ap (λ (j : ℕ). readerAt (j * 8)) (omega arith)
+  further-each-time i late (suc k) near =
+      ap (λ (q : Reader). searched q (searchOf s q)) (further-each-time i late k (omega arith))
+      ∙ ap (searched (readerAt ((i + k) * 8))) (one-byte-further (i + k) (omega arith) (omega arith))
+      ∙ ap (λ (j : ℕ). readerAt (j * 8)) (omega arith)
+
+  -- so from byte i, at the last byte or past it, so many searches later
+  pub at-last-to-a-ten : (i : ℕ) → length s ≤ i + 1 → i ≤ farthestBit / 8
+      → searchOf s (searchedAgain s (readerAt (i * 8)) (farthestBit / 8 + 1 - i)) ≡ SyncRefused 10
+  unfolding searchOf
+  at-last-to-a-ten i late near =
+      let far : (i + (farthestBit / 8 + 1 - i)) * 8 ≡ farthestBit + 8 = omega arith in
+      ap (searchOf s) (further-each-time i late (farthestBit / 8 + 1 - i) (omega arith) ∙ ap readerAt far)
+      ∙ simp (le-ltb _ _ short)

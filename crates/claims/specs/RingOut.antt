@@ -3,12 +3,12 @@
 -- 1,152 of each channel are equal, and while the accepted frames go on agreeing so, every later sample. Assumes nothing.
 use Prim.Native.Nat.{ℕ, _+_, _-_, _*_, _%_, _≤_, _<_}
 use mathlib.Core.Path.{_≡_, refl, sym, ap, ap₂, _∙_}
-use mathlib.Core.List.{List}
+use mathlib.Core.List.{List, _++_}
 use native.Mathlib.Nat.{zero-add}
 use native.Mathlib.Omega.{arith}
 use lib.IntN.{ℤ}
 use lib.Ieee.{Float, nan}
-use lib.ListN.{length, getD}
+use lib.ListN.{length, getD, take}
 use Rattle.grammar.specs.Reads.{run, called}
 use Rattle.grammar.specs.Widths.{Agree, Alike, alike, same-used}
 use Rattle.header.specs.Header.{boundBy}
@@ -19,15 +19,17 @@ use Rattle.window.specs.Output.{Place}
 use Rattle.synthesis.specs.Slots.{positionAfter, ringOf, memoryAfter, outputAfter, outputLength, memoryLength}
 use Rattle.synthesis.specs.Wash.{ring-washed, output-washed, output-by-rings}
 use Rattle.frame.specs.Frame.{codesIn, granulesAt, slotsOf}
-use Rattle.audio.specs.Calls.{decodeOf, decodeMemory, hasHeaderOf}
+use Rattle.audio.specs.Calls.{decodeOf, hasHeaderOf}
 use Rattle.state.specs.declared.Audio.{Audio}
+use Rattle.verdict.specs.Verdict.{asked as stands}
+use Rattle.verdict.specs.declared.Asked.{Asked}
+use Rattle.verdict.specs.declared.Heading.the-variants.{Known}
 use Rattle.audio.specs.declared.Answer.the-variants.{Refused as AnswerRefused}
-use Rattle.past.specs.Pasts.{Past, asked, rated, decoded, refused}
-use Rattle.claims.specs.Untouched.{refused-call-leaves-all}
-use Rattle.past.specs.Calls.{has-header-keeps, Call, outcome, newMemory, newOutput, sample, frameState, firstBit, bitsCalled, Accepts, accepted-known, granulesIn, Leaves, accepted-leaves, accepted-bits, refused-keeps, short-keeps}
+use Rattle.past.specs.Pasts.{Past, asked, rated, decoded, refused, relent}
+use Rattle.past.specs.Calls.{has-header-keeps, Call, outcome, newMemory, newOutput, sample, before, frameState, firstBit, bitsCalled, Accepts, before-keeps, accepted-known, known-accepted, granulesIn, Leaves, accepted-leaves, accepted-bits, refused-keeps}
 use Rattle.past.specs.Sound.{sound, sound-state-in-range, frame-has-extension}
-use Rattle.past.specs.Ring.{ring-by-frames, ring-in-place}
-use Rattle.past.specs.Finite.{samples-finite, BitForBit, equal-values-equal-bits}
+use Rattle.past.specs.Ring.{ring-by-frames, memory-kept-long, relent-rings}
+use Rattle.past.specs.Finite.{samples-finite, samples-fit, BitForBit, equal-values-equal-bits}
 
 -- ---- agreeing frames
 
@@ -88,6 +90,32 @@ module _ {c d : Call} (agree : Agreeing c d) where
       accepted-bits c (agree .accepts) ∙ same-used read-alike
       ∙ ap (λ (f : Format). run (codesIn f) (d .stream) (frameState d .reader) .next .at .0 - firstBit d) format
       ∙ sym (accepted-bits d (agree .accepts′))
+
+-- two calls before whose frames the same state stands agree, if their streams hold the same n bits there
+pub agree-on : (c d : Call) (b : Audio) → before c ≡ stands Known b → before d ≡ stands Known b
+    → (extension n : ℕ) → b .format .bound ≡ boundBy (b .format .mode) extension → called (codesIn (b .format)) (c .stream) (b .reader) ≡ n
+    → b .reader .at .0 + n ≤ 8 * length (c .stream) → b .reader .at .0 + n ≤ 8 * length (d .stream)
+    → Agree (c .stream) (b .reader .at .0) (d .stream) (b .reader .at .0) n → Agreeing c d
+agree-on c d b is is′ extension n bound calls there there′ equal =
+    let f : frameState c ≡ b = ap (λ (x : Asked). x .state) is in
+    let g : frameState d ≡ b = ap (λ (x : Asked). x .state) is′ in
+    let many : bitsCalled c ≡ n = ap (λ (a : Audio). called (codesIn (a .format)) (c .stream) (a .reader)) f ∙ calls in
+    let from : firstBit c ≡ b .reader .at .0 = ap (λ (a : Audio). a .reader .at .0) f in
+    let from′ : firstBit d ≡ b .reader .at .0 = ap (λ (a : Audio). a .reader .at .0) g in
+    record {
+      accepts = known-accepted c b is;
+      accepts′ = known-accepted d b is′;
+      reading = ap (λ (a : Audio). a .format .reading) (f ∙ sym g);
+      samplerate = ap (λ (a : Audio). a .format .samplerate) (f ∙ sym g);
+      bitrate = ap (λ (a : Audio). a .format .bitrate) (f ∙ sym g);
+      mode = ap (λ (a : Audio). a .format .mode) (f ∙ sym g);
+      extension = extension;
+      bound = rw f bound;
+      bound′ = rw g bound;
+      present = omega (arith, many, from, there);
+      present′ = omega (arith, many, from′, there′);
+      equal = rw (many, from, from′) equal;
+    }
 
 -- the two may change places, and a call that has its bits agrees with itself
 pub agree-both-ways : {c d : Call} → Agreeing c d → Agreeing d c
@@ -157,7 +185,7 @@ module _ (x : Call) (ok : Accepts x) (p : ℕ) (at : x .state .ring ≡ p) (gran
   output-is = accepted-leaves x ok .output ∙ ap₂ (λ q g. outputAfter (slotsOf g) q (x .memory) (x .output) 0 36) at is
 
 -- two calls that accept agreeing frames, at one ring position
-module _ {c d : Call} (agree : Agreeing c d) (ring : c .state .ring ≡ d .state .ring) (place : Place (c .state .ring)) where
+module _ {c d : Call} (agree : Agreeing c d) (ring : c .state .ring ≡ d .state .ring) where
   abbrev f : ℕ → ℕ → List ℤ
   f = slotsOf (granulesIn d)
 
@@ -166,6 +194,9 @@ module _ {c d : Call} (agree : Agreeing c d) (ring : c .state .ring ≡ d .state
 
   abbrev lent′ : Leaves d
   lent′ = accepted-leaves d (agree .accepts′)
+
+  place : Place (c .state .ring)
+  place = rw (← before-keeps c .ring) (lent .goes .ready .place)
 
   ring-after : outcome c .state .ring ≡ outcome d .state .ring
   ring-after = lent .ring ∙ ap (λ (p : ℕ). positionAfter p 36) ring ∙ sym (lent′ .ring)
@@ -210,6 +241,10 @@ module _ {c d : Call} (agree : Agreeing c d) (ring : c .state .ring ≡ d .state
       (output-by-rings f (c .state .ring) (c .memory) (d .memory) rings 36 (c .output) (d .output) 0 0
       (lent .goes .output-long) (lent′ .goes .output-long) i l))
 
+  -- the law without pasts: at one ring position the memories may hold whatever they like
+  pub whatever-the-memories : (channel k : ℕ) → channel < 2 → 481 ≤ k → k ≤ 1152 → sample (newOutput c) channel k ≡ sample (newOutput d) channel k
+  whatever-the-memories channel k two late last = first-output (2 * (k - 1) + channel) (omega arith) (omega arith)
+
 -- ---- the first agreeing frame, whatever came before
 
 module _ {c d : Call} (past : Past (c .state) (c .memory)) (past′ : Past (d .state) (d .memory)) (remainder : c .state .frames % 4 ≡ d .state .frames % 4)
@@ -219,28 +254,27 @@ module _ {c d : Call} (past : Past (c .state) (c .memory)) (past′ : Past (d .s
 
   -- "samples 481 to 1,152 of each channel are equal"
   pub rings-out : (channel k : ℕ) → channel < 2 → 481 ≤ k → k ≤ 1152 → sample (newOutput c) channel k ≡ sample (newOutput d) channel k
-  rings-out channel k two late last =
-      first-output agree same-ring (ring-in-place past) (2 * (k - 1) + channel) (omega arith) (omega arith)
+  rings-out = whatever-the-memories agree same-ring
 
   -- "bit for bit"
   pub rings-out-bit-for-bit : (channel k : ℕ) → channel < 2 → 481 ≤ k → k ≤ 1152
       → BitForBit (sample (newOutput c) channel k) (sample (newOutput d) channel k)
   rings-out-bit-for-bit channel k two late last =
-      equal-values-equal-bits 8259553 (samples-finite past (agree .accepts) channel k two (omega arith) last) (rings-out channel k two late last)
+      equal-values-equal-bits 8259553 (samples-finite past (agree .accepts) channel k two (omega arith) last)
+      (samples-fit (agree .accepts) channel k two (omega arith) last) (rings-out channel k two late last)
 
   begun : Joined (outcome c .state) (newMemory c) (outcome d .state) (newMemory d)
-  begun = joined-after agree same-ring (ring-in-place past)
+  begun = joined-after agree same-ring
 
 -- ---- and after it
 
--- a call that accepts no frame: has_header, samplerate, a decode call that gives a number; and a decode call lent another memory
--- that is too short, which leaves the decoder's own
+-- a call that accepts no frame: has_header, samplerate, a decode call that gives a number, whatever memory it was lent; and between
+-- calls the lent slice may change behind the memory
 pub data Passes (a : Audio) (m : List Float) : Audio → List Float → Type 0 where
   asks : (s : List ℕ) → Passes a m (hasHeaderOf s a .state) m
   rates : Passes a m a m
-  refuses : (s : List ℕ) (o : List Float) (number : ℕ) → decodeOf s m o a .answer ≡ AnswerRefused number
-      → Passes a m (decodeOf s m o a .state) (decodeMemory s m o a)
-  too-short : (s : List ℕ) (o short : List Float) → length short < memoryLength → Passes a m (decodeOf s short o a .state) m
+  refuses : (s : List ℕ) (other o : List Float) (number : ℕ) → decodeOf s other o a .answer ≡ AnswerRefused number → Passes a m (decodeOf s other o a .state) m
+  lends : (more : List Float) → Passes a m a (take memoryLength m ++ more)
 
 -- two decoders that accepted agreeing frames, and since then, each on its own streams, any calls that accept no frame, and pair by
 -- pair further agreeing frames: "with no opening and no other writing between"
@@ -256,8 +290,8 @@ pub data Together : Audio → List Float → Audio → List Float → Type 0 whe
 passed : {a b : Audio} {m n : List Float} → Past a m → Passes a m b n → Past b n
 passed p (asks s) = asked p s
 passed p rates = rated p
-passed p (refuses s o k e) = decoded p s o
-passed p (too-short s o short l) = refused p s o short l
+passed p (refuses s other o k e) = refused p s other o k e
+passed p (lends more) = relent p more
 
 past-one : {a b : Audio} {m n : List Float} → Together a m b n → Past a m
 past-one (begin c d p q r e) = decoded p (c .stream) (c .output)
@@ -265,34 +299,41 @@ past-one (one-passes t x) = passed (past-one t) x
 past-one (other-passes t x) = past-one t
 past-one (again c d t e) = decoded (past-one t) (c .stream) (c .output)
 
-passed-keeps : {a b : Audio} {m n : List Float} → Passes a m b n → (b .ring ≡ a .ring) × (n ≡ m)
-passed-keeps {a} {b} {m} {n} (asks s) = (has-header-keeps s a .ring, refl)
-passed-keeps rates = (refl, refl)
-passed-keeps {a} {b} {m} {n} (refuses s o k e) =
-    (refused-keeps (record { stream = s; memory = m; output = o; state = a }) k e .ring, refused-call-leaves-all s m o a k e .0)
-passed-keeps {a} {b} {m} {n} (too-short s o short l) = (short-keeps (record { stream = s; memory = short; output = o; state = a }) l .ring, refl)
+past-other : {a b : Audio} {m n : List Float} → Together a m b n → Past b n
+past-other (begin c d p q r e) = decoded q (d .stream) (d .output)
+past-other (one-passes t x) = past-other t
+past-other (other-passes t x) = passed (past-other t) x
+past-other (again c d t e) = decoded (past-other t) (d .stream) (d .output)
+
+passed-keeps : {a b : Audio} {m n : List Float} → Past a m → Passes a m b n → Joined b n a m
+passed-keeps {a} p (asks s) = record { ring = has-header-keeps s a .ring; rings = λ channel two. refl }
+passed-keeps p rates = record { ring = refl; rings = λ channel two. refl }
+passed-keeps {a} p (refuses s other o k e) =
+    record { ring = refused-keeps (record { stream = s; memory = other; output = o; state = a }) k e .ring; rings = λ channel two. refl }
+passed-keeps {a} {b} {m} p (lends more) =
+    record { ring = refl; rings = λ channel two. relent-rings m (memory-kept-long p) channel two more }
 
 stay-joined : {a b : Audio} {m n : List Float} → Together a m b n → Joined a m b n
 stay-joined (begin c d p q r e) = begun p q r e
 stay-joined (one-passes t x) =
     let j = stay-joined t in
-    let k = passed-keeps x in
-    record { ring = k .0 ∙ j .ring; rings = λ channel two. ap (ringOf channel) (k .1) ∙ j .rings channel two }
+    let k = passed-keeps (past-one t) x in
+    record { ring = k .ring ∙ j .ring; rings = λ channel two. k .rings channel two ∙ j .rings channel two }
 stay-joined (other-passes t x) =
     let j = stay-joined t in
-    let k = passed-keeps x in
-    record { ring = j .ring ∙ sym (k .0); rings = λ channel two. j .rings channel two ∙ sym (ap (ringOf channel) (k .1)) }
-stay-joined (again c d t e) = joined-after e (stay-joined t .ring) (ring-in-place (past-one t))
+    let k = passed-keeps (past-other t) x in
+    record { ring = j .ring ∙ sym (k .ring); rings = λ channel two. j .rings channel two ∙ sym (k .rings channel two) }
+stay-joined (again c d t e) = joined-after e (stay-joined t .ring)
 
 -- "every later sample is equal too"
 module _ {c d : Call} (together : Together (c .state) (c .memory) (d .state) (d .memory)) (agree : Agreeing c d) where
   pub every-later-sample : (channel k : ℕ) → channel < 2 → 1 ≤ k → k ≤ 1152 → sample (newOutput c) channel k ≡ sample (newOutput d) channel k
   every-later-sample channel k two first last =
       let j = stay-joined together in
-      later-output agree (j .ring) (ring-in-place (past-one together)) (j .rings) (2 * (k - 1) + channel) (omega arith)
+      later-output agree (j .ring) (j .rings) (2 * (k - 1) + channel) (omega arith)
 
   pub every-later-sample-bit-for-bit : (channel k : ℕ) → channel < 2 → 1 ≤ k → k ≤ 1152
       → BitForBit (sample (newOutput c) channel k) (sample (newOutput d) channel k)
   every-later-sample-bit-for-bit channel k two first last =
       equal-values-equal-bits 8259553 (samples-finite (past-one together) (agree .accepts) channel k two first last)
-      (every-later-sample channel k two first last)
+      (samples-fit (agree .accepts) channel k two first last) (every-later-sample channel k two first last)

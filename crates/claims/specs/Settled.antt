@@ -1,6 +1,6 @@
 -- Calls on one stream come to rest. 01, "Numbers a call can give": "on the same stream 1 and 7 repeat for ever"; "From the bytes to
 -- a header": "on n bytes at most n/2 + 1 decode calls come before all answer 1 or 7". Assumes nothing.
-use Prim.Native.Nat.{ℕ, zero, suc, _+_, _*_, _/_, _≤_}
+use Prim.Native.Nat.{ℕ, zero, suc, _+_, _*_, _/_, _≤_, _<_}
 use mathlib.Core.Path.{_≡_, refl, sym, ap, subst, _∙_}
 use mathlib.Core.Bool.{true, false}
 use mathlib.Core.List.{List}
@@ -13,7 +13,10 @@ use lib.Ieee.{Float}
 use lib.ListN.{length}
 use Rattle.buffer.specs.Calls.{left}
 use Rattle.state.specs.State.{inRange}
-use Rattle.audio.specs.Calls.{decodeOf}
+use Rattle.state.specs.StateLaws.{ranged}
+use Rattle.verdict.specs.Verdict.{tried}
+use Rattle.verdict.specs.declared.Asked.{Asked}
+use Rattle.audio.specs.Calls.{decodeOf, hasHeaderOf}
 use Rattle.audio.specs.Numbers.{answerNumber, ends, callersMistake}
 use lib.Dec.{eqb}
 use borrow.Author.Tests.{eqb-true, eqb-false}
@@ -22,8 +25,8 @@ use Rattle.ground.specs.Rows.{never}
 use Rattle.state.specs.declared.Audio.{Audio}
 use Rattle.audio.specs.declared.Decoded.{Decoded}
 use Rattle.ground.specs.Rows.{exactly}
-use Rattle.header.specs.Attempts.{one, attempt-number}
-use Rattle.claims.specs.Numbers.{Lent, InOrder, waits, Decodes, eight, nine, ten, sought, seven, zero as frame, refused, decode-table, pending-within}
+use Rattle.header.specs.Attempts.{one, attempt-number, attempt-table}
+use Rattle.claims.specs.Numbers.{Lent, InOrder, waits, Decodes, eight, nine, ten, sought, seven, zero as frame, refused, decode-table, Asks, has-header-table, pending-within}
 use Rattle.past.specs.Moves.{call-moves}
 use Rattle.past.specs.Sound.{decode-stays-in-range}
 
@@ -33,23 +36,59 @@ use Rattle.past.specs.Sound.{decode-stays-in-range}
 abbrev pub Settled : List ℕ → ℕ → Audio → Type 0
 Settled s n a = (memory output : List Float) → Lent s memory output → decodeOf s memory output a ≡ refused n a
 
-module _ {s : List ℕ} {memory output : List Float} {a : Audio} where
-  one-settles : {x : Decoded} → Decodes s memory output a 1 x → Settled s 1 (x .state)
-  one-settles (sought c e (one l)) =
-      λ m o lent. sym (decode-table s m o a .only (sought (record { room = lent; within = c .within }) e (one l)) .0)
+-- and with other calls between: on this stream no call leaves another state, whatever it is lent
+pub record Rests (s : List ℕ) (n : ℕ) (a : Audio) : Type 0 where
+  pub repeats : Settled s n a
+  pub decodes : (memory output : List Float) → decodeOf s memory output a .state ≡ a
+  pub asks : hasHeaderOf s a .state ≡ a
 
-  seven-settles : {x : Decoded} → Decodes s memory output a 7 x → Settled s 7 (x .state)
+module _ {s : List ℕ} {a : Audio} where
+  decode-stays : {n k : ℕ} → Settled s n a → (memory output : List Float) {x : Decoded} → Decodes s memory output a k x
+      → x ≡ decodeOf s memory output a → x .state ≡ a
+  decode-stays h memory output (eight l) e = refl
+  decode-stays h memory output (nine l m) e = refl
+  decode-stays h memory output (ten l r) e = refl
+  decode-stays h memory output (sought c z t) e = ap (λ x. x .state) (e ∙ h memory output (c .room))
+  decode-stays h memory output (seven c b l) e = ap (λ x. x .state) (e ∙ h memory output (c .room))
+  decode-stays h memory output (frame c b l) e = ap (λ x. x .state) (e ∙ h memory output (c .room))
+
+  -- a question, where a header is known or fewer than 48 bits remain
+  asking-stays : {n : ℕ} {x : Asked} → ((a .format .samplerate ≡ 3 → ⊥) ⊎ (left s (a .reader) < 48)) → Asks s a n x → x .state ≡ a
+  asking-stays why (Asks.eight l) = refl
+  asking-stays why (Asks.ten l r) = refl
+  asking-stays why (Asks.known l r e) = refl
+  asking-stays (inl knows) (Asks.sought l r e t) = absurd (knows e)
+  asking-stays (inr few) (Asks.sought l r e t) =
+      let table = attempt-table s (a .reader) l (ranged a r .near) (a .format) in
+      ap (λ x. tried a x .state) (table .only t .0 ∙ sym (table .only (one few) .0))
+
+  rests : {n : ℕ} → Settled s n a → ((a .format .samplerate ≡ 3 → ⊥) ⊎ (left s (a .reader) < 48)) → Rests s n a
+  rests h why =
+      record {
+        repeats = h;
+        decodes = λ memory output. decode-stays h memory output (decode-table s memory output a .holds) refl;
+        asks = asking-stays why (has-header-table s a .holds);
+      }
+
+module _ {s : List ℕ} {memory output : List Float} {a : Audio} where
+  one-settles : {x : Decoded} → Decodes s memory output a 1 x → Rests s 1 (x .state)
+  one-settles (sought c e (one l)) =
+      rests (λ m o lent. sym (decode-table s m o a .only (sought (record { room = lent; within = c .within }) e (one l)) .0)) (inr l)
+
+  seven-settles : {x : Decoded} → Decodes s memory output a 7 x → Rests s 7 (x .state)
   seven-settles (sought c e t) = absurd (let n = attempt-number t in omega arith)
   seven-settles (seven {b} c h l) =
-      λ m o lent. sym (decode-table s m o b .only
-      (seven (record { room = lent; within = pending-within s memory output a c h }) (waits (λ e. omega arith)) l) .0)
+      let within = pending-within s memory output a c h in
+      rests
+      (λ m o lent. sym (decode-table s m o b .only (seven (record { room = lent; within = within }) (waits (λ e. omega arith)) l) .0))
+      (inl (λ none. let z = ranged b within .known none in omega arith))
 
 module _ (s : List ℕ) (memory output : List Float) (a : Audio) where
-  pub one-repeats : answerNumber (decodeOf s memory output a .answer) ≡ 1 → Settled s 1 (decodeOf s memory output a .state)
-  one-repeats e = one-settles (exactly (decode-table s memory output a) 1 _ .0 (refl, e))
+  one-rests : answerNumber (decodeOf s memory output a .answer) ≡ 1 → Rests s 1 (decodeOf s memory output a .state)
+  one-rests e = one-settles (exactly (decode-table s memory output a) 1 _ .0 (refl, e))
 
-  pub seven-repeats : answerNumber (decodeOf s memory output a .answer) ≡ 7 → Settled s 7 (decodeOf s memory output a .state)
-  seven-repeats e = seven-settles (exactly (decode-table s memory output a) 7 _ .0 (refl, e))
+  seven-rests : answerNumber (decodeOf s memory output a .answer) ≡ 7 → Rests s 7 (decodeOf s memory output a .state)
+  seven-rests e = seven-settles (exactly (decode-table s memory output a) 7 _ .0 (refl, e))
 
 -- ---- which numbers end a stream, and which are the caller's (audio, Numbers)
 
@@ -58,11 +97,11 @@ module _ (s : List ℕ) (memory output : List Float) (a : Audio) where
   number = answerNumber (decodeOf s memory output a .answer)
 
   -- what `ends` says of 1 and 7: the same answer for ever
-  pub an-end-lasts : ends number ≡ true → Settled s number (decodeOf s memory output a .state)
+  pub an-end-lasts : ends number ≡ true → Rests s number (decodeOf s memory output a .state)
   an-end-lasts e =
       either {a = eqb number 1} _ e
-      (λ h. let n = eqb-true _ _ h in subst (λ k. Settled s k (decodeOf s memory output a .state)) (sym n) (one-repeats s memory output a n))
-      (λ h. let n = eqb-true _ _ h in subst (λ k. Settled s k (decodeOf s memory output a .state)) (sym n) (seven-repeats s memory output a n))
+      (λ h. let n = eqb-true _ _ h in subst (λ k. Rests s k (decodeOf s memory output a .state)) (sym n) (one-rests s memory output a n))
+      (λ h. let n = eqb-true _ _ h in subst (λ k. Rests s k (decodeOf s memory output a .state)) (sym n) (seven-rests s memory output a n))
 
   -- what `callersMistake` says of 8, 9 and 10: something was lent or saved wrong, and nothing happened
   mistaken : {n : ℕ} {x : Decoded} → Decodes s memory output a n x → (n ≤ 7) ⊎ ((InOrder s memory output a → ⊥) × (x .state ≡ a))
@@ -113,11 +152,11 @@ module _ (s : List ℕ) (memory output : ℕ → List Float) (a : Audio) where
 
   rests-at-one : (k : ℕ) → numberAt k ≡ 1 → Settled s 1 (stateAfter (suc k))
   unfolding stateAfter
-  rests-at-one k = one-repeats s (memory k) (output k) (stateAfter k)
+  rests-at-one k e = one-rests s (memory k) (output k) (stateAfter k) e .repeats
 
   rests-at-seven : (k : ℕ) → numberAt k ≡ 7 → Settled s 7 (stateAfter (suc k))
   unfolding stateAfter
-  rests-at-seven k = seven-repeats s (memory k) (output k) (stateAfter k)
+  rests-at-seven k e = seven-rests s (memory k) (output k) (stateAfter k) e .repeats
 
   module _ (lent : (k : ℕ) → Lent s (memory k) (output k)) where
     settled-state : (n k : ℕ) → Settled s n (stateAfter k) → (j : ℕ) → stateAfter (k + j) ≡ stateAfter k

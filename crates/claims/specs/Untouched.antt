@@ -3,7 +3,8 @@
 use Prim.Native.Nat.{ℕ, _+_, _≤_, _<_}
 use mathlib.Core.Path.{_≡_, refl, sym, ap, _∙_}
 use mathlib.Core.Bool.{false}
-use mathlib.Core.List.{List, _++_}
+use mathlib.Core.List.{List, [], _++_}
+use mathlib.Core.Logic.{inr}
 use native.Mathlib.Omega.{arith}
 use lib.IntN.{pos}
 use lib.Ieee.{Float, fin, nan}
@@ -11,7 +12,10 @@ use lib.ListN.{length, getD, drop, List·getD-append}
 use lib.Seq.{getD-append-add, getD-drop}
 use borrow.Author.Tests.{lt-ltb, le-ltb}
 use Rattle.ground.specs.Table.{at-table}
-use Rattle.synthesis.specs.Slots.{memoryLength}
+use Rattle.window.specs.Output.{Place}
+use Rattle.synthesis.specs.Slots.{withRings, memoryLength, outputLength}
+use Rattle.synthesis.specs.Memory.{memory-with}
+use Rattle.synthesis.specs.Output.{output-other}
 use Rattle.buffer.specs.Bits.{longestStream}
 use Rattle.audio.specs.CallsLaws.{blank-length}
 use Rattle.verdict.specs.Verdict.{readyOf}
@@ -20,6 +24,7 @@ use Rattle.state.specs.declared.Audio.{Audio}
 use Rattle.verdict.specs.declared.Heading.{Heading}
 use Rattle.verdict.specs.declared.Heading.the-variants.{Known, Refused}
 use Rattle.audio.specs.declared.Answer.the-variants.{Refused as AnswerRefused}
+use Rattle.past.specs.Calls.{Call, newMemory, newOutput, before, before-keeps, known-leaves}
 
 -- every number but a decoded frame's 0 leaves memory and output as they were
 module _ (s : List ℕ) (memory output : List Float) (a : Audio) where
@@ -34,6 +39,27 @@ module _ (s : List ℕ) (memory output : List Float) (a : Audio) where
   unfolding decodeOf decodeMemory decodeOutput
   refused-call-leaves-all n e =
       let r = readyOf s (length memory) (length output) a in by-verdict (r .answer) (r .state) n e
+
+-- "Longer ones are allowed; the rest of them stays untouched", whatever the call's answer
+pub the-rest-stays : (c : Call) (i : ℕ) → (getD (newMemory c) (memoryLength + i) nan ≡ getD (c .memory) (memoryLength + i) nan)
+    × (getD (newOutput c) (outputLength + i) nan ≡ getD (c .output) (outputLength + i) nan)
+unfolding decodeMemory decodeOutput withRings
+the-rest-stays c i = go (before c .answer) refl
+  where
+    go : (h : Heading) → before c .answer ≡ h → (getD (newMemory c) (memoryLength + i) nan ≡ getD (c .memory) (memoryLength + i) nan)
+        × (getD (newOutput c) (outputLength + i) nan ≡ getD (c .output) (outputLength + i) nan)
+    go Known e =
+        let d = known-leaves c e in
+        let place : Place (c .state .ring) = rw (← before-keeps c .ring) (d .goes .ready .place) in
+        let behind : drop memoryLength (newMemory c) ≡ drop memoryLength (c .memory) =
+        ap (drop memoryLength) (d .memory) ∙ memory-with _ place (c .memory) (d .goes .memory-long) 36 (λ _. []) in (
+          sym (getD-drop memoryLength (newMemory c) i nan)
+              ∙ ap (λ (m : List Float). getD m i nan) behind
+              ∙ getD-drop memoryLength (c .memory) i nan,
+          ap (λ (o : List Float). getD o (outputLength + i) nan) (d .output)
+              ∙ output-other _ _ (c .memory) (c .output) 0 36 (outputLength + i) (inr (omega arith)),
+        )
+    go (Refused n) e = (rw e refl, rw e refl)
 
 -- an opening that gives 8 or 9 leaves the memory
 module _ (s : List ℕ) (memory : List Float) where

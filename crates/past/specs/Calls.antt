@@ -1,7 +1,7 @@
 -- A call of decode and what it leaves; when it accepts a frame, and from which state: the one that has the frame's header. A call that
 -- accepts none leaves frame count and ring position. From demand 3, "both accept a frame", and 01, "Numbers a call can give".
 -- Assumes nothing.
-use Prim.Native.Nat.{ℕ, _+_, _-_, _*_, _<_}
+use Prim.Native.Nat.{ℕ, _+_, _-_, _*_}
 use mathlib.Core.Path.{_≡_, refl, ap, sym, _∙_}
 use mathlib.Core.List.{List}
 use native.Mathlib.Omega.{arith}
@@ -10,9 +10,9 @@ use lib.Ieee.{Float, nan}
 use lib.ListN.{length, getD}
 use Rattle.buffer.specs.declared.Reader.{Reader}
 use Rattle.grammar.specs.Reads.{called}
-use Rattle.synthesis.specs.Slots.{positionAfter, memoryAfter, outputAfter, memoryLength}
+use Rattle.synthesis.specs.Slots.{positionAfter, memoryAfter, outputAfter}
 use Rattle.frame.specs.Frame.{codesIn, granulesAt, slotsOf, frameMemory, frameOutput}
-use Rattle.verdict.specs.Verdict.{readyOf}
+use Rattle.verdict.specs.Verdict.{asked, readyOf}
 use Rattle.audio.specs.Calls.{afterOf, framedOf, framedMemory, framedOutput, answering, decodeOf, decodeMemory, decodeOutput, hasHeaderOf}
 use Rattle.audio.specs.CallsLaws.{Goes, goes, by-asking}
 use Rattle.verdict.specs.VerdictLaws.{Stays, stays, attempt-keeps, Verdict, verdict-holds, verdict-leaves}
@@ -113,6 +113,11 @@ module _ (c : Call) where
       by-verdict Known b e = refl
       by-verdict (Refused n) b e = absurd (let z : _≡_ {A = ℕ} 0 1 = cc in omega arith)
 
+  pub known-accepted : (b : Audio) → before c ≡ asked Known b → Accepts c
+  unfolding decodeOf framedOf afterOf
+  known-accepted b is =
+      record { time = b .time; bits = granulesAt (c .stream) (b .reader) (b .format) .next .at .0 - b .reader .at .0; answer = rw is }
+
   pub accepted-leaves : Accepts c → Leaves c
   accepted-leaves ok = known-leaves (accepted-known ok)
 
@@ -139,6 +144,3 @@ module _ (c : Call) where
       unless-known
       (λ k. let f = ap (λ (x : Decoded). x .answer) (known-leaves k .gives) in
       let z : _≡_ {A = ℕ} 0 1 = cc in omega arith)
-
-  pub short-keeps : length (c .memory) < memoryLength → Stays (c .state) (outcome c .state)
-  short-keeps short = unless-known (λ k. let long = known-leaves k .goes .memory-long in omega arith)

@@ -3,21 +3,24 @@
 use Prim.Native.Nat.{ℕ, zero, suc, _+_, _-_, _*_, _/_, _%_, _^_, _≤_, _<_}
 use mathlib.Core.Path.{_≡_, refl, sym, ap, _∙_, subst}
 use mathlib.Core.Bool.{not}
+use mathlib.Core.Logic.{_⊎_, inl, inr}
 use mathlib.Core.List.{List, _∷_, _++_}
 use native.Mathlib.Nat.{zero-add}
 use native.Mathlib.Omega.{arith}
 use lib.Dec.{T, lit≤}
 use lib.IntN.{ℤ, pos}
-use lib.Ieee.{Float, nan, inf, fin, binary32, isNan, ofBits, toBits}
-use lib.Ieee.Bits.{toBits-ofBits}
+use lib.Ieee.{Float, nan, inf, fin, binary32, fits, isNan, ofBits, toBits}
+use lib.Ieee.Bits.{ofBits-toBits, toBits-ofBits, toBits-lt}
+use lib.Ieee.Fits.{div-fits}
 use lib.ListN.{length, getD, drop, replicate, length-drop}
 use lib.Seq.{length-take-le, getD-take, getD-drop}
 use Rattle.ground.specs.Table.{table}
 use Rattle.buffer.specs.declared.Reader.{Reader}
 use Rattle.header.specs.declared.Format.{Format}
 use Rattle.codes.specs.Values.{Bounded, frame-bounded}
-use Rattle.window.specs.Output.{nought}
-use Rattle.synthesis.specs.Slots.{ringOf, slotSamples, memoryLength}
+use Rattle.window.specs.Output.{nought, outputOf}
+use Rattle.synthesis.specs.Slots.{ringOf, slotSamples, outputsAt, memoryLength}
+use Rattle.synthesis.specs.Output.{output-at}
 use Rattle.finite.specs.Within.{Within}
 use Rattle.finite.specs.Halving.{Quiet}
 use Rattle.finite.specs.Each.{Each, InBothRings, each-cleared}
@@ -29,7 +32,7 @@ use Rattle.audio.specs.CallsLaws.{Ready}
 use Rattle.state.specs.declared.Audio.{Audio}
 use Rattle.past.specs.Pasts.{Past}
 use Rattle.past.specs.Calls.{Call, newOutput, sample, frameState, Accepts, granulesIn, accepted-leaves}
-use Rattle.past.specs.Ring.{since-opening, ring-in-place, memory-kept-long}
+use Rattle.past.specs.Ring.{since-opening, relent-rings, ring-in-place, memory-kept-long}
 
 -- ---- a frame's samples are small, whatever the stream
 
@@ -66,7 +69,9 @@ framed-calm s b m ready long calm =
     calm-after (slotsOf (granulesAt s (b .reader) (b .format) .value)) (ready .place) m long calm 36 (frame-quiet s (b .reader) (b .format))
 
 calm-since : {a : Audio} {m : List Float} → Past a m → Calm m
-calm-since = since-opening (λ _ _ m. Calm m) (λ m _. opened-each (Within (2 ^ 36)) (lit≤ tt) (drop memoryLength m)) framed-calm
+calm-since =
+    since-opening (λ _ _ m. Calm m) (λ m _. opened-each (Within (2 ^ 36)) (lit≤ tt) (drop memoryLength m)) framed-calm
+    (λ _ _ m more long calm channel two. subst (Each (Within (2 ^ 36))) (sym (relent-rings m long channel two more)) (calm channel two))
 
 -- every ring value is finite, and at most 2 ^ 36
 pub memory-finite : {a : Audio} {m : List Float} → Past a m → (i : ℕ) → i < memoryLength → Within (2 ^ 36) (getD m i nan)
@@ -89,9 +94,22 @@ samples-finite {c} p ok channel k two first last =
 
 -- ---- bit for bit
 
--- of two values: whatever bit patterns stand for them, they are one pattern
-unfoldable pub BitForBit : Float → Float → Type 0
-BitForBit x y = (b c : ℕ) → b < 2 ^ 32 → c < 2 ^ 32 → ofBits binary32 b ≡ x → ofBits binary32 c ≡ y → b ≡ c
+-- and it is a value of the format, whatever the memory held: a quotient
+pub samples-fit : {c : Call} → Accepts c → (channel k : ℕ) → channel < 2 → 1 ≤ k → k ≤ 1152 → T (fits binary32 (sample (newOutput c) channel k))
+unfolding outputsAt outputOf
+samples-fit {c} ok channel k two first last =
+    let d = accepted-leaves c ok in
+    let i = 2 * (k - 1) + channel in
+    rw (d .output, ← zero-add i, output-at (slotsOf (granulesIn c)) (c .state .ring) (c .memory) (c .output) 0 36 (d .goes .output-long) i (omega arith))
+    (div-fits binary32 _ _)
+
+-- of two values: one bit pattern stands for both, and no other stands for either
+pub record BitForBit (x y : Float) : Type 0 where
+  pub pattern : ℕ
+  pub small : pattern < 2 ^ 32
+  pub one : ofBits binary32 pattern ≡ x
+  pub other : ofBits binary32 pattern ≡ y
+  pub only : (b : ℕ) → b < 2 ^ 32 → (ofBits binary32 b ≡ x) ⊎ (ofBits binary32 b ≡ y) → b ≡ pattern
 
 no-nan : (n : ℕ) (x : Float) → Within n x → T (not (isNan x))
 unfolding isNan
@@ -99,10 +117,15 @@ no-nan n nan h = absurd h
 no-nan n (inf s) h = absurd h
 no-nan n (fin s m e) h = tt
 
-the-pattern : (n b : ℕ) (x : Float) → Within n x → b < 2 ^ 32 → ofBits binary32 b ≡ x → toBits binary32 x ≡ b
-the-pattern n b x h l e =
-    ap (toBits binary32) (sym e) ∙ toBits-ofBits binary32 b l (subst (λ (y : Float). T (not (isNan y))) (sym e) (no-nan n x h))
+pub equal-values-equal-bits : {x y : Float} (n : ℕ) → Within n x → T (fits binary32 x) → x ≡ y → BitForBit x y
+equal-values-equal-bits {x} {y} n h fit same =
+    let back = ofBits-toBits binary32 x fit in
+    record { pattern = toBits binary32 x; small = toBits-lt binary32 x fit; one = back; other = back ∙ same; only = only }
+  where
+    the-pattern : (b : ℕ) → b < 2 ^ 32 → ofBits binary32 b ≡ x → b ≡ toBits binary32 x
+    the-pattern b l e =
+        sym (toBits-ofBits binary32 b l (subst (λ (z : Float). T (not (isNan z))) (sym e) (no-nan n x h))) ∙ ap (toBits binary32) e
 
-pub equal-values-equal-bits : {x y : Float} (n : ℕ) → Within n x → x ≡ y → BitForBit x y
-unfolding BitForBit
-equal-values-equal-bits {x} {y} n h same b c lb lc e f = sym (the-pattern n b x h lb e) ∙ the-pattern n c x h lc (f ∙ sym same)
+    only : (b : ℕ) → b < 2 ^ 32 → (ofBits binary32 b ≡ x) ⊎ (ofBits binary32 b ≡ y) → b ≡ toBits binary32 x
+    only b l (inl e) = the-pattern b l e
+    only b l (inr e) = the-pattern b l (e ∙ sym same)

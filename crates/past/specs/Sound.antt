@@ -23,15 +23,16 @@ use Rattle.audio.specs.Calls.{alignedOf, answering, afterOf, framedOf, decodeOf
 use Rattle.state.specs.StateLaws.{Ranged, ranged, in-range, fresh-ranged, framed-to-ranged}
 use Rattle.audio.specs.CallsLaws.{Ready, goes, ended, by-asking, by-opening}
 use Rattle.verdict.specs.VerdictLaws.{Sound, Kept, attempt-kept, verdict-holds, verdict-kept}
-use Rattle.past.specs.Calls.{short-keeps}
+use Rattle.past.specs.Calls.{Call, frameState, Accepts, verdict-of, accepted-leaves, refused-keeps}
 use Rattle.header.specs.declared.Reading.{Reading}
 use Rattle.state.specs.declared.Audio.{Audio}
 use Rattle.audio.specs.declared.Answer.{Answer}
 use Rattle.audio.specs.declared.Answer.the-variants.{Frame, Refused as AnswerRefused}
+use Rattle.audio.specs.declared.Decoded.{Decoded}
 use Rattle.verdict.specs.declared.Asked.{Asked}
 use Rattle.verdict.specs.declared.Heading.{Heading}
 use Rattle.verdict.specs.declared.Heading.the-variants.{Known, Refused}
-use Rattle.past.specs.Pasts.{Past, opened, asked as has-asked, rated, decoded, refused}
+use Rattle.past.specs.Pasts.{Past, opened, asked as has-asked, rated, decoded, refused, relent}
 use Rattle.frame.specs.FrameLaws.{frame-uses-16-bits}
 
 -- ---- a frame
@@ -135,7 +136,8 @@ sound-state-in-range (opened c s m l k) = opening-is-in-range c s m
 sound-state-in-range (has-asked {a} p s) = has-header-stays-in-range s a (sound-state-in-range p)
 sound-state-in-range (rated p) = sound-state-in-range p
 sound-state-in-range (decoded {a} {m} p s o) = decode-stays-in-range s m o a (sound-state-in-range p)
-sound-state-in-range (refused {a} p s o short l) = decode-stays-in-range s short o a (sound-state-in-range p)
+sound-state-in-range (refused {a} p s other o n e) = decode-stays-in-range s other o a (sound-state-in-range p)
+sound-state-in-range (relent p more) = sound-state-in-range p
 
 fresh-sound : (c : Reading) → Sound (fresh c)
 unfolding fresh startTimeOf
@@ -151,7 +153,8 @@ sound (opened c s m l k) = open-leads c s m .sound (fresh-sound c)
 sound (has-asked {a} p s) = has-header-leads s a (ranged a (sound-state-in-range p)) .sound (sound p)
 sound (rated p) = sound p
 sound (decoded {a} {m} p s o) = decode-leads s m o a (ranged a (sound-state-in-range p)) .sound (sound p)
-sound (refused {a} p s o short l) = decode-leads s short o a (ranged a (sound-state-in-range p)) .sound (sound p)
+sound (refused {a} p s other o n e) = decode-leads s other o a (ranged a (sound-state-in-range p)) .sound (sound p)
+sound (relent p more) = sound p
 
 -- the count of accepted frames, and that the state keeps it
 unfoldable pub framesOf : {a : Audio} {m : List Float} → Past a m → ℕ
@@ -159,7 +162,8 @@ framesOf (opened c s m l k) = 0
 framesOf (has-asked p s) = framesOf p
 framesOf (rated p) = framesOf p
 framesOf (decoded {a} {m} p s o) = framesOf p + framesIn (decodeOf s m o a .answer)
-framesOf (refused p s o short l) = framesOf p
+framesOf (refused p s other o n e) = framesOf p
+framesOf (relent p more) = framesOf p
 
 pub frames-are-counted : {a : Audio} {m : List Float} (p : Past a m) → a .frames ≡ framesOf p
 unfolding framesOf fresh
@@ -169,8 +173,16 @@ frames-are-counted (rated p) = frames-are-counted p
 frames-are-counted (decoded {a} {m} p s o) =
     decode-leads s m o a (ranged a (sound-state-in-range p)) .frames
     ∙ ap (λ n. n + framesIn (decodeOf s m o a .answer)) (frames-are-counted p)
-frames-are-counted (refused {a} p s o short l) = short-keeps (record { stream = s; memory = short; output = o; state = a }) l .frames ∙ frames-are-counted p
+frames-are-counted (refused {a} p s other o n e) =
+    refused-keeps (record { stream = s; memory = other; output = o; state = a }) n e .frames ∙ frames-are-counted p
+frames-are-counted (relent p more) = frames-are-counted p
 
-module _ {a : Audio} {m : List Float} (past : Past a m) where
-  pub time-by-frames : a .time ≡ startTimeOf (a .frames) (a .format .samplerate)
-  time-by-frames = sound past .time
+-- the start time that an answer gives: by the count of frames before it
+pub time-by-frames : {c : Call} → Past (c .state) (c .memory) → (ok : Accepts c) → ok .time ≡ startTimeOf (c .state .frames) (frameState c .format .samplerate)
+unfolding framedOf afterOf
+time-by-frames {c} past ok =
+    let e = accepted-leaves c ok .gives in
+    let same : Frame (ok .time) (ok .bits) ≡ framedOf (c .stream) (frameState c) .answer = sym (ok .answer) ∙ ap (λ (x : Decoded). x .answer) e in
+    let told : ok .time ≡ frameState c .time = cc in
+    let k = verdict-kept (ranged (c .state) (sound-state-in-range past)) (verdict-of c) in
+    told ∙ k .sound (sound past) .time ∙ ap (λ (n : ℕ). startTimeOf n (frameState c .format .samplerate)) (k .frames)

@@ -1,0 +1,131 @@
+-- The lister's lines: they come to an end, which is the last line and no other. From 01, the lister: "calls until 1 or 7".
+-- Assumes nothing.
+use Prim.Native.Nat.{ℕ, zero, suc, _+_, _*_, _/_, _<_}
+use mathlib.Core.Path.{_≡_, refl, ap}
+use mathlib.Core.Bool.{Bool, true, false, cond}
+use mathlib.Core.List.{List, [], _∷_, _++_, map, flatMap}
+use native.Mathlib.Omega.{arith}
+use lib.Dec.{eqb}
+use lib.Ieee.{Float}
+use lib.ListN.{length, getD}
+use borrow.Author.Tests.{lt-ltb, eqb-false, ltb-false}
+use Rattle.ground.specs.Tests.{by-test, neither}
+use Rattle.ground.specs.Rows.{never}
+use Rattle.buffer.specs.Calls.{left}
+use Rattle.synthesis.specs.Slots.{memoryLength}
+use Rattle.header.specs.Readings.{plain}
+use Rattle.state.specs.declared.Audio.{Audio}
+use Rattle.verdict.specs.declared.Heading.{Heading}
+use Rattle.verdict.specs.declared.Heading.the-variants.{Known, Refused as HeadingRefused}
+use Rattle.audio.specs.Calls.{openOf}
+use Rattle.audio.specs.Numbers.{ends, answerNumber}
+use Rattle.audio.specs.declared.Answer.{Answer}
+use Rattle.audio.specs.declared.Answer.the-variants.{Frame, Refused}
+use Rattle.listing.specs.declared.Line.{Line}
+use Rattle.listing.specs.declared.Line.the-variants.{Frame as FrameLine, Refused as RefusedLine, End, Long}
+use Rattle.listing.specs.Lines.{Shown, bytePosition, lineBy, isLast, nextOf, openingTold, openingShown, shownFrom, quiet, calledOf, tooLong, shownOf, linesOf}
+use Rattle.listing.specs.Text.{marksOf, textBy, textsOf, listingOf}
+use Rattle.past.specs.Calls.{Call, outcome}
+use Rattle.past.specs.Moves.{call-moves}
+use Rattle.heard.specs.Heard.{after, opening, Begun, opening-begun, begun-on}
+
+-- ---- the last line is an end, and no other is
+
+pub record EndsOnce (xs : List Line) : Type 0 where
+  pub before : List Line
+  pub last : Line
+  pub is : xs ≡ before ++ (last ∷ [])
+  pub ends : isLast last ≡ true
+  pub others : (i : ℕ) (d : Line) → i < length before → isLast (getD before i d) ≡ false
+
+at-once : (x : Line) → isLast x ≡ true → EndsOnce (x ∷ [])
+at-once x e = record { before = []; last = x; is = refl; ends = e; others = λ i d l. absurd (omega arith) }
+
+one-more : (x : Line) (xs : List Line) → isLast x ≡ false → EndsOnce xs → EndsOnce (x ∷ xs)
+one-more x xs e r =
+    record {
+      before = x ∷ r .before;
+      last = r .last;
+      is = ap (λ (ys : List Line). x ∷ ys) (r .is);
+      ends = r .ends;
+      others = others;
+    }
+  where
+    others : (i : ℕ) (d : Line) → i < length (x ∷ r .before) → isLast (getD (x ∷ r .before) i d) ≡ false
+    others zero d l = e
+    others (suc i) d l = r .others i d (omega arith)
+
+-- a line that is no end is a call that gave neither 1 nor 7
+no-end : (number : ℕ) (x : Answer) (a : Audio) → isLast (lineBy number x a) ≡ false → (answerNumber x ≡ 1 → ⊥) × (answerNumber x ≡ 7 → ⊥)
+no-end number (Frame time bits) a e = (λ z. omega arith, λ z. omega arith)
+no-end number (Refused n) a e = go (ends n) refl e
+  where
+    go : (t : Bool) → ends n ≡ t → isLast (cond t (End n (bytePosition a)) (RefusedLine n (bytePosition a))) ≡ false → (n ≡ 1 → ⊥) × (n ≡ 7 → ⊥)
+    go true t f = absurd (never refl f)
+    go false t f = let h = neither (eqb n 1) (eqb n 7) t in (eqb-false n 1 (h .0), eqb-false n 7 (h .1))
+
+abbrev pub linesIn : List Shown → List Line
+linesIn = map (λ (x : Shown). x .line)
+
+abbrev pub lineAt : Call → Line
+lineAt c = nextOf (c .stream) (c .memory) (c .output) (c .state) .line
+
+abbrev pub linesFrom : ℕ → Call → List Line
+linesFrom calls c = linesIn (shownFrom calls (c .stream) (c .memory) (c .output) (c .state))
+
+-- 16 bits at least go with each call before an end, and with fewer than 48 left it is one
+comes-to-an-end : (k calls : ℕ) (c : Call) → k < calls → Begun c → left (c .stream) (c .state .reader) < 48 + 16 * k → EndsOnce (linesFrom calls c)
+unfolding shownFrom nextOf
+comes-to-an-end k zero c l b few = absurd (omega arith)
+comes-to-an-end zero (suc calls) c l b few =
+    by-test (λ (xs : List Shown). EndsOnce (lineAt c ∷ linesIn xs)) (isLast (lineAt c)) _ _ (at-once (lineAt c))
+    (λ e. let n = no-end (c .state .frames) (outcome c .answer) (outcome c .state) e in
+    absurd (let h = call-moves c b (n .0) (n .1) in omega arith))
+comes-to-an-end (suc k) (suc calls) c l b few =
+    by-test (λ (xs : List Shown). EndsOnce (lineAt c ∷ linesIn xs)) (isLast (lineAt c)) _ _ (at-once (lineAt c))
+    (λ e. let n = no-end (c .state .frames) (outcome c .answer) (outcome c .state) e in
+    let h = call-moves c b (n .0) (n .1) in
+    one-more (lineAt c) _ e (comes-to-an-end k calls (after c) (omega arith) (begun-on c b) (omega arith)))
+
+opening-first : (h : Heading) (a : Audio) (xs : List Shown) → EndsOnce (linesIn xs) → EndsOnce (linesIn (openingShown h a ++ xs))
+opening-first Known a xs e = e
+opening-first (HeadingRefused n) a xs e =
+    by-test (λ (ys : List Shown). EndsOnce (linesIn (ys ++ xs))) (openingTold n) _ _ (λ _. one-more (RefusedLine n (bytePosition a)) _ refl e) (λ _. e)
+
+-- so the listing of every stream ends, and says so
+pub listing-ends : (s : List ℕ) → EndsOnce (linesOf s)
+unfolding shownOf calledOf
+listing-ends s =
+    by-test (λ (xs : List Shown). EndsOnce (linesIn xs)) (tooLong s) _ _ (λ _. at-once Long refl)
+    (λ t. let short = ltb-false 65536 (length s) t in
+    let opened = openOf plain s (quiet memoryLength) in
+    opening-first (opened .answer) (opened .state) _
+    (comes-to-an-end (length s / 2 + 1) (length s / 2 + 2) (opening s) (omega arith) (opening-begun s (omega arith)) (omega arith)))
+
+-- "the one line `long`"
+pub long-is-one-line : (s : List ℕ) → 65536 < length s → linesOf s ≡ Long ∷ []
+unfolding shownOf
+long-is-one-line s long = rw (lt-ltb 65536 (length s) long)
+
+-- ---- the text
+
+-- a line's text: the lister marks none
+abbrev pub textOf : Line → List ℕ
+textOf line = textBy false line []
+
+unmarked : (line : Line) (samples : List Float) → textBy false line samples ≡ textOf line
+unfolding marksOf
+unmarked (FrameLine number at rate kbps mode bits time) samples = refl
+unmarked (RefusedLine number at) samples = refl
+unmarked (End number at) samples = refl
+unmarked Long samples = refl
+
+lines-text : (xs : List Shown) → textsOf false xs ≡ flatMap textOf (linesIn xs)
+unfolding textsOf flatMap
+lines-text [] = refl
+lines-text (x ∷ xs) = cc (unmarked (x .line) (x .samples), lines-text xs)
+
+-- all that the lister writes is the text of its lines, one after the other
+pub listing-is-its-lines : (s : List ℕ) → listingOf false s ≡ flatMap textOf (linesOf s)
+unfolding listingOf
+listing-is-its-lines s = lines-text (shownOf s)
