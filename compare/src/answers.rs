@@ -5,6 +5,7 @@ use crate::by_01::{by_01, decode_by_01, Reading};
 use crate::files::files;
 use crate::source::traced::audio::Audio;
 use crate::source::NO_FORMAT;
+use std::io::Read;
 use std::path::Path;
 
 /// FNV-1a of 64 bits over the bit patterns, low byte first.
@@ -40,8 +41,14 @@ fn call(audio: &mut Audio, stream: &[u8], frames: usize) -> (String, bool) {
     (format!("{frame} time {time:016x} sum {sum:016x}"), false)
 }
 
+/// 01: "at most 65,536 bytes on standard input (more: the one line `long`)".
+const LONGEST: usize = 65_536;
+
 /// The listing of one stream: calls until 1 or 7.
 fn listing(stream: &[u8]) -> Vec<String> {
+    if stream.len() > LONGEST {
+        return vec!["long".to_string()];
+    }
     let opening = by_01(stream, 0, NO_FORMAT);
     let mut audio = Audio::new(stream.to_vec());
     assert_eq!((audio.at(), audio.pending()), (opening.at, opening.size), "the opening");
@@ -64,5 +71,39 @@ pub fn print(folder: &Path) {
     for (path, stream) in files(folder) {
         println!("{}", path.file_name().unwrap().to_string_lossy());
         listing(&stream).iter().for_each(|line| println!("{line}"));
+    }
+}
+
+/// The state as the tag's arrays hold it: six places, two counts, and the next start.
+fn state(audio: &Audio) -> String {
+    let (f, (frames, time)) = (audio.format(), audio.clock());
+    let places = [audio.at(), f.samplerate_index, f.bitrate_index, f.bound, audio.pending(), audio.ring()];
+    let places = places.map(|n| n.to_string()).join(" ");
+    format!("{places} {} {frames} {:016x}", f.mode, time.to_bits())
+}
+
+/// What the program `across` must write of the stream on standard input.
+pub fn across() {
+    let mut stream = Vec::new();
+    std::io::stdin().read_to_end(&mut stream).expect("a stream");
+    let opening = by_01(&stream, 0, NO_FORMAT);
+    let mut audio = Audio::new(stream.clone());
+    println!("open {} {}", opening.number, state(&audio));
+    loop {
+        let number = decode_by_01(&stream, audio.at(), audio.format(), audio.pending()).number;
+        let start = audio.clock().1;
+        let answer = audio.decode();
+        assert_eq!(answer.is_some(), number == 0, "the Rust and 01 differ");
+        let Some(samples) = answer else {
+            println!("decode {number} {}", state(&audio));
+            if [1, 7].contains(&number) {
+                return;
+            }
+            continue;
+        };
+        assert_eq!(samples.time.to_bits(), start.to_bits(), "the start");
+        let (rate, bits) = (audio.samplerate(), audio.used().1);
+        let told = format!("{rate} {:016x} {bits} {:016x}", samples.time.to_bits(), checksum(&samples.interleaved));
+        println!("decode 0 {} {told}", state(&audio));
     }
 }

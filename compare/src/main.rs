@@ -56,8 +56,10 @@ mod wave;
 
 #[cfg(layer = "answers")]
 fn main() {
-    let folder = std::env::args().nth(1).expect("a folder of streams");
-    answers::print(folder.as_ref());
+    match std::env::args().nth(1) {
+        Some(folder) => answers::print(folder.as_ref()),
+        None => answers::across(),
+    }
 }
 
 #[cfg(layer = "bench")]

@@ -1,17 +1,20 @@
 -- The decoder's state and answers as numbers: what firmware, or a test in another language, gets across the boundary, and what each
 -- of the four calls promises there. The calls themselves are audio's. Assumes nothing.
 use Prim.Native.Nat.{ℕ}
-use mathlib.Core.Path.{_≡_, refl}
+use mathlib.Core.Path.{_≡_, refl, ap, subst, _∙_}
 use mathlib.Core.Bool.{false}
 use mathlib.Core.List.{List, [], _∷_}
 use lib.ListN.{getD}
 use lib.IntN.{pos}
-use lib.Ieee.{Float, fin, nan}
+use lib.Ieee.{Float, fin, nan, binary64, ofBits, toBits, isNan, div, ofInt}
 use Rattle.buffer.specs.Calls.{readerAt}
 use Rattle.header.specs.Readings.{plain}
+use Rattle.clock.specs.Clock.{startTimeOf, sameBits, onTime}
+use Rattle.state.specs.State.{numbersOk, inRange}
 use Rattle.state.specs.declared.Audio.{Audio}
 use Rattle.verdict.specs.declared.Asked.{Asked}
-use Rattle.audio.specs.Calls.{samplerateOf, decodeOf, decodeMemory, decodeOutput}
+use Rattle.audio.specs.Calls.{openOf, openMemory, samplerateOf, decodeOf, decodeMemory, decodeOutput}
+use Rattle.header.specs.declared.Reading.{Reading}
 use Rattle.audio.specs.Numbers.{headingNumber}
 use Rattle.audio.specs.declared.Rate.{Rate}
 use Rattle.audio.specs.declared.Rate.the-variants.{Hertz as Samples, Refused as RateRefused}
@@ -113,3 +116,44 @@ module _ (s : List ℕ) (memory output : List Float) (a : Audio) where
     pub state-is : HeldIn (decoded .state) places counts time
     pub start-is : start ≡ played .start ∷ []
     pub bits-are : bits ≡ played .bits ∷ []
+
+-- ---- call after call
+
+-- what one call left in the arrays, the next one reads
+pub read-back : {a : Audio} {places counts : List ℕ} {time : List Float} → HeldIn a places counts time → stateOf places counts time ≡ a
+read-back {a} {places} {counts} {time} h =
+    ap (λ (xs : List ℕ). stateOf xs counts time) (h .places-hold)
+    ∙ ap (λ (xs : List ℕ). stateOf (placesOf a) xs time) (h .counts-hold)
+    ∙ ap (λ (xs : List Float). stateOf (placesOf a) (countsOf a) xs) (h .time-holds)
+
+-- so tag_open and then tag_decode leave what `new` and then `decode` leave; and so on, from any state that a call has left
+pub open-then-decode : (r : Reading) (s : List ℕ) (memory output : List Float) {number : ℕ} {places counts : List ℕ} {time : List Float}
+    → TagTold (openOf r s memory) number places counts time
+    → {number′ : ℕ} {memory′ output′ : List Float} {places′ counts′ : List ℕ} {time′ start : List Float} {bits : List ℕ}
+    → TagDecode s (openMemory s memory) output (stateOf places counts time) number′ memory′ output′ places′ counts′ time′ start bits
+    → TagDecode s (openMemory s memory) output (openOf r s memory .state) number′ memory′ output′ places′ counts′ time′ start bits
+open-then-decode r s memory output told {number′} {memory′} {output′} {places′} {counts′} {time′} {start} {bits} decodes =
+    subst (λ (a : Audio). TagDecode s (openMemory s memory) output a number′ memory′ output′ places′ counts′ time′ start bits) (read-back (told .state-is)) decodes
+
+-- ---- the order of the places and counts, and their units
+
+-- at bit 832, 48,000 Hz, 192 kbps, dual channel, bound 12; five frames played, 100 bytes pending, the last slot at 768; the next frame
+-- starts at 0.12 seconds, 5 times 1152 / 48000
+abbrev example : Audio
+example =
+    record {
+      reader = readerAt 832;
+      format = record { reading = record { choices = 17 }; samplerate = 1; bitrate = 9; mode = 2; bound = 12 };
+      frames = 5;
+      pending = 100;
+      ring = 768;
+      time = ofBits binary64 0x3FBEB851EB851EB8;
+    }
+
+pub order : (placesOf example ≡ 832 ∷ 1 ∷ 9 ∷ 12 ∷ 100 ∷ 768 ∷ 0 ∷ 0 ∷ []) × (countsOf example ≡ 2 ∷ 5 ∷ 17 ∷ 0 ∷ 0 ∷ 0 ∷ 0 ∷ 0 ∷ [])
+order = (refl, refl)
+
+-- hertz; and the time is this state's, so it is in seconds
+pub units : hertzOf (samplerateOf example) ≡ record { number = 0; rate = 48000 }
+unfolding samplerateOf inRange numbersOk onTime sameBits startTimeOf isNan toBits ofBits div ofInt
+units = refl
