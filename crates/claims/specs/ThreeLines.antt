@@ -35,7 +35,7 @@ use Rattle.audio.specs.declared.Answer.the-variants.{Frame, Refused as RefusedA
 use Rattle.listing.specs.declared.Line.{Line}
 use Rattle.listing.specs.declared.Line.the-variants.{Frame as FrameLine, Refused as RefusedLine, End}
 use Rattle.listing.specs.Lines.{lineBy, Shown, isLast, quiet, nextOf, openingShown, shownFrom, calledOf, shownOf, linesOf}
-use Rattle.listing.specs.Text.{placesOf, decimalOf, numbered, marksOf, placeText, formatText, frameText, listingOf}
+use Rattle.listing.specs.Text.{digitsIn, decimalOf, numbered, marksOf, placeText, formatText, frameText, listingOf}
 use Rattle.past.specs.Calls.{Call, outcome, Accepts, accepted-leaves}
 use Rattle.heard.specs.Heard.{after, opening, Begun, opening-begun, begun-on}
 use Rattle.claims.specs.Widths.{aligned-after-the-bits}
@@ -171,5 +171,5 @@ pub three-lines-text : listingOf false zeros ≡
     32 ∷ 49 ∷ 56 ∷ 56 ∷ 10 ∷
     114 ∷ 101 ∷ 102 ∷ 117 ∷ 115 ∷ 101 ∷ 100 ∷ 32 ∷ 50 ∷ 32 ∷ 97 ∷ 116 ∷ 32 ∷ 54 ∷ 50 ∷ 55 ∷ 10 ∷
     101 ∷ 110 ∷ 100 ∷ 32 ∷ 49 ∷ 32 ∷ 97 ∷ 116 ∷ 32 ∷ 54 ∷ 50 ∷ 55 ∷ 10 ∷ []
-unfolding flatMap marksOf frameText formatText placeText numbered decimalOf placesOf
+unfolding flatMap marksOf frameText formatText placeText numbered decimalOf digitsIn
 three-lines-text = listing-is-its-lines zeros ∙ ap (flatMap textOf) three-lines

@@ -15,13 +15,13 @@ use Rattle.listing.specs.declared.Line.the-variants.{Frame, Refused, End
 -- ---- numbers
 
 -- how many decimal digits a number has: one, or one more than its tenth, and no more than the first number says
-unfoldable pub placesOf : ℕ → ℕ → ℕ
-placesOf zero n = 0
-placesOf (suc most) n = cond (ltb n 10) 1 (suc (placesOf most (n / 10)))
+unfoldable pub digitsIn : ℕ → ℕ → ℕ
+digitsIn zero n = 0
+digitsIn (suc most) n = cond (ltb n 10) 1 (suc (digitsIn most (n / 10)))
 
 -- its digits, at most 20, which hold every number of 64 bits
 unfoldable pub decimalOf : ℕ → List ℕ
-decimalOf n = digits 10 (placesOf 20 n) n
+decimalOf n = digits 10 (digitsIn 20 n) n
 
 -- ---- words
 

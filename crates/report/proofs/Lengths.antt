@@ -22,20 +22,20 @@ use Rattle.listing.specs.declared.Line.the-variants.{Frame, Refused, End, Long}
 use Rattle.listing.specs.Lines.{Shown, shown, isLast, nextOf, shownFrom, openingTold, openingShown, quiet, calledOf, shownOf}
 use Rattle.listing.specs.Fnv.{sumOf}
 use Rattle.listing.specs.Text.{frameWord, atWord, rateWord, kbpsWord, modeWord, bitsWord, refusedWord, endWord, timeWord, sumWord}
-use Rattle.listing.specs.Text.{placesOf, decimalOf, numbered, timeBits, hexed, marksOf, placeText, formatText, frameText, textBy, textsOf, listingOf}
+use Rattle.listing.specs.Text.{digitsIn, decimalOf, numbered, timeBits, hexed, marksOf, placeText, formatText, frameText, textBy, textsOf, listingOf}
 
 digits-length : (base k n : ℕ) → length (digits base k n) ≡ k
 digits-length base zero n = refl
 digits-length base (suc k) n = omega (arith, length-append (digits base k (n / base)) (glyph (n % base) ∷ []), digits-length base k (n / base))
 
-few-places : (most n : ℕ) → placesOf most n ≤ most
-unfolding placesOf
+few-places : (most n : ℕ) → digitsIn most n ≤ most
+unfolding digitsIn
 few-places zero n = omega arith
 few-places (suc most) n = by-test (λ (k : ℕ). k ≤ suc most) (ltb n 10) _ _ (λ _. omega arith) (λ _. omega (arith, few-places most (n / 10)))
 
 short-number : (word : List ℕ) (n : ℕ) → length (numbered word n) ≤ length word + 20
 unfolding numbered decimalOf
-short-number word n = omega (arith, length-append word (digits 10 (placesOf 20 n) n), digits-length 10 (placesOf 20 n) n, few-places 20 n)
+short-number word n = omega (arith, length-append word (digits 10 (digitsIn 20 n) n), digits-length 10 (digitsIn 20 n) n, few-places 20 n)
 
 short-hex : (word : List ℕ) (n : ℕ) → length (hexed word n) ≤ length word + 16
 unfolding hexed

@@ -133,7 +133,8 @@ pub open-then-decode : (r : Reading) (s : List ℕ) (memory output : List Float)
     → TagDecode s (openMemory s memory) output (stateOf places counts time) number′ memory′ output′ places′ counts′ time′ start bits
     → TagDecode s (openMemory s memory) output (openOf r s memory .state) number′ memory′ output′ places′ counts′ time′ start bits
 open-then-decode r s memory output told {number′} {memory′} {output′} {places′} {counts′} {time′} {start} {bits} decodes =
-    subst (λ (a : Audio). TagDecode s (openMemory s memory) output a number′ memory′ output′ places′ counts′ time′ start bits) (read-back (told .state-is)) decodes
+    subst (λ (a : Audio). TagDecode s (openMemory s memory) output a number′ memory′ output′ places′ counts′ time′ start bits)
+    (read-back (told .state-is)) decodes
 
 -- ---- the order of the places and counts, and their units
 

@@ -9,11 +9,11 @@ use native.Mathlib.Omega.{arith}
 use lib.Dec.{ltb}
 use borrow.Author.Tests.{lt-ltb, le-ltb, ltb-true, ltb-false}
 use Rattle.io.specs.Digits.{digits, Fewest}
-use Rattle.listing.specs.Text.{placesOf, decimalOf}
+use Rattle.listing.specs.Text.{digitsIn, decimalOf}
 
 -- the fewest places that hold a number are those that are counted
-pub places-counted : (most k n : ℕ) → k ≤ most → Fewest 10 1 n k → k ≡ placesOf most n
-unfolding placesOf
+pub places-counted : (most k n : ℕ) → k ≤ most → Fewest 10 1 n k → k ≡ digitsIn most n
+unfolding digitsIn
 places-counted zero k n l f = absurd (let least = f .0 in omega arith)
 places-counted (suc most) zero n l f = absurd (let least = f .0 in omega arith)
 places-counted (suc most) (suc zero) n l f = let few : n < 10 = f .1 in simp (lt-ltb _ _ few)
