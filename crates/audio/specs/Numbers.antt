@@ -1,7 +1,9 @@
--- The numbers of 01's table by name, and the number that each answer stands for.
+-- The numbers of 01's table by name, and for each answer its number and its values.
 use Prim.Native.Nat.{ℕ}
-use mathlib.Core.Bool.{Bool, _||_}
+use mathlib.Core.Bool.{Bool, false, _||_}
 use lib.Dec.{eqb}
+use lib.IntN.{pos}
+use lib.Ieee.{Float, fin}
 use Rattle.verdict.specs.declared.Heading.{Heading}
 use Rattle.verdict.specs.declared.Heading.the-variants.{Known, Refused}
 use Rattle.audio.specs.declared.Rate.{Rate}
@@ -20,6 +22,20 @@ rateNumber (RateRefused n) = n
 abbrev pub answerNumber : Answer → ℕ
 answerNumber (Frame time bits) = 0
 answerNumber (AnswerRefused n) = n
+
+-- samples a second; 0 beside a refusal
+abbrev pub rateHertz : Rate → ℕ
+rateHertz (Hertz rate) = rate
+rateHertz (RateRefused n) = 0
+
+-- a frame's start in seconds, and the bits that it used; zeros beside a refusal
+abbrev pub answerStart : Answer → Float
+answerStart (Frame time bits) = time
+answerStart (AnswerRefused n) = fin false 0 (pos 0)
+
+abbrev pub answerBits : Answer → ℕ
+answerBits (Frame time bits) = bits
+answerBits (AnswerRefused n) = 0
 
 -- ---- the numbers, by name: firmware/tag.h has the same
 

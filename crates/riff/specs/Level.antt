@@ -35,6 +35,11 @@ unfoldable pub pcmOf : List Float → List ℕ
 pcmOf [] = []
 pcmOf (x ∷ xs) = bits16 (levelOf x) % 256 ∷ bits16 (levelOf x) / 256 ∷ pcmOf xs
 
+-- the samples as a converter takes them: 16 bits each
+unfoldable pub wordsOf : List Float → List ℕ
+wordsOf [] = []
+wordsOf (x ∷ xs) = bits16 (levelOf x) ∷ wordsOf xs
+
 -- the number n that `halfUp` gives is the nearest: n − 1/2 ≤ a / b < n + 1/2
 pub half-up-is-nearest : (a b : ℕ) → 0 < b → (2 * halfUp a b * b ≤ 2 * a + b) × (2 * a < (2 * halfUp a b + 1) * b)
 half-up-is-nearest a b h =
@@ -72,6 +77,10 @@ pub example-bytes : pcmOf (fin false 1 (negsuc 0) ∷ fin true 1 (negsuc 0) ∷ 
 unfolding pcmOf levelOf
 example-bytes = refl
 
+pub example-words : wordsOf (fin false 1 (negsuc 0) ∷ fin true 1 (negsuc 0) ∷ fin true 1 (negsuc 14) ∷ []) ≡ 16384 ∷ 49152 ∷ 65535 ∷ []
+unfolding wordsOf levelOf
+example-words = refl
+
 small-down : (n : ℕ) → bits16 (negℤ (pos n)) < 65536
 small-down zero = omega arith
 small-down (suc n) = omega arith
@@ -100,3 +109,22 @@ pub high-byte : (xs : List Float) (i : ℕ) → i < length xs → getD (pcmOf xs
 unfolding pcmOf
 high-byte (x ∷ xs) zero h = refl
 high-byte (x ∷ xs) (suc i) h = let e : 2 * suc i + 1 ≡ suc (suc (2 * i + 1)) = omega arith in rw e (high-byte xs i (omega arith))
+
+-- word i, and how many there are
+pub length-words : (xs : List Float) → length (wordsOf xs) ≡ length xs
+unfolding wordsOf
+length-words [] = refl
+length-words (x ∷ xs) = let r = length-words xs in omega arith
+
+pub word-at : (xs : List Float) (i : ℕ) → i < length xs → getD (wordsOf xs) i 0 ≡ bits16 (levelOf (getD xs i nan))
+unfolding wordsOf
+word-at (x ∷ xs) zero h = refl
+word-at (x ∷ xs) (suc i) h = word-at xs i (omega arith)
+
+-- the bytes of a file's samples are those of the words, low byte first
+pub bytes-of-words : (xs : List Float) (i : ℕ) → i < length xs
+    → getD (pcmOf xs) (2 * i) 0 + 256 * getD (pcmOf xs) (2 * i + 1) 0 ≡ getD (wordsOf xs) i 0
+bytes-of-words xs i h =
+    let w = bits16 (levelOf (getD xs i nan)) in
+    let whole : w % 256 + 256 * (w / 256) ≡ w = omega arith in
+    rw (low-byte xs i h, high-byte xs i h, word-at xs i h) whole

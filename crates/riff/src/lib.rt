@@ -3,7 +3,7 @@
 ghost use mathlib.Core.Path.{_≡_};
 ghost use Prim.Native.Nat.{_+_, _*_, _/_, _%_, _^_, _<_, _≤_, min};
 ghost use lib.ListN.{length};
-ghost use Rattle.riff.specs.Level.{halfUp, levelOf, bits16, pcmOf};
+ghost use Rattle.riff.specs.Level.{halfUp, levelOf, bits16, pcmOf, wordsOf};
 ghost use Rattle.riff.specs.Header.{putAt, waveHeaderOf};
 
 // 1.0, in steps of 1/32768.
@@ -84,6 +84,18 @@ pub fn write_samples(values: &[f32], bytes: &mut [u8])
         let bits = word(values[i]);
         bytes[2 * i] = (bits % 256) as u8;
         bytes[2 * i + 1] = (bits / 256) as u8;
+        i += 1;
+    }
+}
+
+// The samples as a converter takes them, 16 bits each.
+pub fn write_words(values: &[f32], words: &mut [u16])
+    requires { ⌜ length (now words) ≡ length (now values) ⌝ }
+    ensures { λ _. ⌜ now (words .exit) ≡ wordsOf (now (values .entry)) ⌝ }
+{
+    let mut i = 0;
+    while i < values.len() {
+        words[i] = word(values[i]) as u16;
         i += 1;
     }
 }

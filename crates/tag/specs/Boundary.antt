@@ -1,25 +1,25 @@
 -- The decoder's state and answers as numbers: what firmware, or a test in another language, gets across the boundary, and what each
--- of the four calls promises there. The calls themselves are audio's. Assumes nothing.
+-- of the five calls promises there. Four are audio's calls; the fifth rounds a frame's samples. Assumes nothing.
 use Prim.Native.Nat.{ℕ}
 use mathlib.Core.Path.{_≡_, refl, ap, subst, _∙_}
-use mathlib.Core.Bool.{false}
-use mathlib.Core.List.{List, [], _∷_}
-use lib.ListN.{getD}
-use lib.IntN.{pos}
-use lib.Ieee.{Float, fin, nan, binary64, ofBits, toBits, isNan, div, ofInt}
+use mathlib.Core.Bool.{Bool, cond, _||_}
+use mathlib.Core.List.{List, [], _∷_, _++_}
+use lib.Dec.{ltb}
+use lib.ListN.{length, take, drop, getD}
+use lib.Ieee.{Float, nan, binary64, ofBits, toBits, isNan, div, ofInt}
 use Rattle.buffer.specs.Calls.{readerAt}
 use Rattle.header.specs.Readings.{plain}
+use Rattle.synthesis.specs.Slots.{outputLength}
+use Rattle.riff.specs.Level.{wordsOf}
 use Rattle.clock.specs.Clock.{startTimeOf, sameBits, onTime}
 use Rattle.state.specs.State.{numbersOk, inRange}
 use Rattle.state.specs.declared.Audio.{Audio}
 use Rattle.verdict.specs.declared.Asked.{Asked}
 use Rattle.audio.specs.Calls.{openOf, openMemory, samplerateOf, decodeOf, decodeMemory, decodeOutput}
 use Rattle.header.specs.declared.Reading.{Reading}
-use Rattle.audio.specs.Numbers.{headingNumber}
+use Rattle.audio.specs.Numbers.{headingNumber, rateNumber, rateHertz, answerNumber, answerStart, answerBits, littleRoom}
 use Rattle.audio.specs.declared.Rate.{Rate}
-use Rattle.audio.specs.declared.Rate.the-variants.{Hertz as Samples, Refused as RateRefused}
 use Rattle.audio.specs.declared.Answer.{Answer}
-use Rattle.audio.specs.declared.Answer.the-variants.{Frame, Refused}
 use Rattle.audio.specs.declared.Decoded.{Decoded}
 use Rattle.tag.specs.declared.Hertz.{Hertz}
 use Rattle.tag.specs.declared.Played.{Played}
@@ -75,15 +75,13 @@ pub widened : (position samplerate bitrate bound pending ring mode frames : ℕ)
     }
 widened position samplerate bitrate bound pending ring mode frames time = refl
 
--- ---- the answers: 01's number with the rate, or with a frame's start and bits; a refusal gives zeros
+-- ---- the answers: 01's number and values
 
 abbrev pub hertzOf : Rate → Hertz
-hertzOf (Samples n) = record { number = 0; rate = n }
-hertzOf (RateRefused n) = record { number = n; rate = 0 }
+hertzOf r = record { number = rateNumber r; rate = rateHertz r }
 
 abbrev pub playedOf : Answer → Played
-playedOf (Frame t b) = record { number = 0; start = t; bits = b }
-playedOf (Refused n) = record { number = n; start = fin false 0 (pos 0); bits = 0 }
+playedOf a = record { number = answerNumber a; start = answerStart a; bits = answerBits a }
 
 -- ---- what each call promises: the number that it returns, and what it leaves in all that it was lent
 
@@ -116,6 +114,15 @@ module _ (s : List ℕ) (memory output : List Float) (a : Audio) where
     pub state-is : HeldIn (decoded .state) places counts time
     pub start-is : start ≡ played .start ∷ []
     pub bits-are : bits ≡ played .bits ∷ []
+
+-- whether one of two slices has no room for a frame
+abbrev pub noRoomFor : List Float → List ℕ → Bool
+noRoomFor output samples = ltb (length output) outputLength || ltb (length samples) outputLength
+
+-- a frame's samples in 16 bits (02, E1's rounding); what lies behind them stays, and so does all where there is no room
+pub record TagSamples16 (output : List Float) (samples : List ℕ) (number : ℕ) (samples′ : List ℕ) : Type 0 where
+  pub number-is : number ≡ cond (noRoomFor output samples) littleRoom 0
+  pub samples-are : samples′ ≡ cond (noRoomFor output samples) samples (wordsOf (take outputLength output) ++ drop outputLength samples)
 
 -- ---- call after call
 

@@ -1,4 +1,4 @@
-// The boundary that firmware links: the decoder's four calls, numbers and slices and nothing else. specs/Boundary says what stands
+// The boundary that firmware links: the decoder's four calls, and a frame's 16-bit samples; numbers and slices and nothing else. specs/Boundary says what stands
 // where in `places`, `counts` and `time`.
 use audio::Answer;
 use audio::Rate;
@@ -12,7 +12,7 @@ ghost use mathlib.Core.Path.{_≡_};
 ghost use Rattle.header.specs.Readings.{readingBy};
 ghost use Rattle.audio.specs.Calls.{openOf, openMemory, hasHeaderOf};
 ghost use Rattle.audio.specs.Numbers.{headingNumber};
-ghost use Rattle.tag.specs.Boundary.{stateOf, placesOf, countsOf, timeOf, hertzOf, playedOf, TagTold, TagSamplerate, TagDecode};
+ghost use Rattle.tag.specs.Boundary.{stateOf, placesOf, countsOf, timeOf, hertzOf, playedOf, TagTold, TagSamplerate, TagDecode, TagSamples16};
 
 fn restore(places: &[usize; 8], counts: &[u32; 8], time: &[f64; 1]) -> Audio
     ensures { λ r. ⌜ r ≡ stateOf (now (places .entry)) (now (counts .entry)) (now (time .entry)) ⌝ }
@@ -196,4 +196,22 @@ pub extern "C" fn tag_decode(
     *start = [p.start];
     *bits = [p.bits];
     p.number
+}
+
+// A frame's samples as a converter takes them, 16 bits each, rounded as in a WAV file.
+#[no_mangle]
+pub extern "C" fn tag_samples16(output: &[f32], samples: &mut [u16]) -> u32
+    ensures { λ r. ⌜ TagSamples16 (now (output .entry)) (now (samples .entry)) r (now (samples .exit)) ⌝ }
+{
+    if output.len() < synthesis::OUTPUT {
+        return 9;
+    }
+    if samples.len() < synthesis::OUTPUT {
+        return 9;
+    }
+    riff::write_words(
+        &output[..synthesis::OUTPUT],
+        &mut samples[..synthesis::OUTPUT],
+    );
+    0
 }

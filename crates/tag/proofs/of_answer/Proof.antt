@@ -12,7 +12,7 @@ enum-known-a-2 : tie.Need-enum-known-a-2
 enum-known-a-2 c = search needs
 
 returns : tie.Need-returns
-returns c = cc
+returns c = ap playedOf (sym (c .before .a .given .1))
 
 returns-2 : tie.Need-returns-2
 unfolding ofBits

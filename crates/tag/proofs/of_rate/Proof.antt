@@ -1,4 +1,6 @@
 use borrow.Author.Needs.{needs}
+use mathlib.Core.Path.{ap, sym}
+use Rattle.tag.specs.Boundary.{hertzOf}
 use Rattle.tag.proofs.of_rate.Statement.{statement}
 use Rattle.tag.proofs.of_rate.Tie as tie
 
@@ -9,10 +11,10 @@ enum-known-r-2 : tie.Need-enum-known-r-2
 enum-known-r-2 c = search needs
 
 returns : tie.Need-returns
-returns c = cc
+returns c = ap hertzOf (sym (c .before .r .given .1))
 
 returns-2 : tie.Need-returns-2
-returns-2 c = cc
+returns-2 c = ap hertzOf (sym (c .before .r2 .given .1))
 
 pub of-rate-spec : {M : Type 1} → statement M
 of-rate-spec = tie.close (tie.spec enum-known-r enum-known-r-2 returns returns-2)
