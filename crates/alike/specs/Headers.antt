@@ -127,8 +127,8 @@ module _ (s : List ℕ) (bytes : (j : ℕ) → getD s j 0 < 256) (r : Reader) (b
               version-3 = ap (λ (z : Field). z .value) (version-is s byte short thirty) ∙ version-3 s byte short fields;
               layer-2 = ap (λ (z : Field). z .value) (layer-is s byte short thirty) ∙ fields .layer;
             };
-        some-bitrate = λ e. omega (arith, fields .bitrate-least);
-        no-free-bitrate = λ e. omega (arith, fields .bitrate-most);
+        not-free = λ e. omega (arith, fields .bitrate-least);
+        not-forbidden = λ e. omega (arith, fields .bitrate-most);
       }
 
   pub the-standards-header : (known : Format) → Follows known s byte → AcceptedAt s r byte known
@@ -242,8 +242,8 @@ module _ (s : List ℕ) (r : Reader) (short : length s ≤ longestStream) (known
           syncword = t .0;
           id = t .1;
           layer = sym (ap value (layer-is s byte short room)) ∙ u .ident .layer-2;
-          bitrate-least = least (bitrateIndex s byte) (λ e. u .some-bitrate (b ∙ e));
-          bitrate-most = most (bitrateIndex s byte) l (λ e. u .no-free-bitrate (b ∙ e));
+          bitrate-least = least (bitrateIndex s byte) (λ e. u .not-free (b ∙ e));
+          bitrate-most = most (bitrateIndex s byte) l (λ e. u .not-forbidden (b ∙ e));
           frequency = few (samplingFrequency s byte) m (λ e. f (ap value (samplerate-is s byte short room) ∙ e));
         }
       where

@@ -109,15 +109,16 @@ pub factor-63 : factorOf 63 ≡ 0
 unfolding factorOf
 factor-63 = refl
 
--- S8: the standard's third digit is reduced as the other two. It is the same for every code that three digits make ..
-abbrev pub standardThird : ℕ → ℕ → ℕ
-standardThird levels v = v / levels / levels % levels
+-- S8: a third digit that is reduced as the other two are: libmad has it so, and the programs differ. It is the same for every code that
+-- three digits make ..
+abbrev pub reducedThird : ℕ → ℕ → ℕ
+reducedThird levels v = v / levels / levels % levels
 
-pub same-third-digit : (levels v : ℕ) → 0 < levels → v < levels * levels * levels → digitsOf levels v .third ≡ standardThird levels v
+pub same-third-digit : (levels v : ℕ) → 0 < levels → v < levels * levels * levels → digitsOf levels v .third ≡ reducedThird levels v
 same-third-digit levels v some h = sym (mod-eq-of-lt (div-lt-iff-lt-mul some .1 (div-lt-iff-lt-mul some .1 h)))
 
 -- .. and not past them
-pub code-31 : (digitsOf 3 31 .third ≡ 3) × (standardThird 3 31 ≡ 0)
+pub code-31 : (digitsOf 3 31 .third ≡ 3) × (reducedThird 3 31 ≡ 0)
 code-31 = (refl, refl)
 
 -- S9: all ones is no level; the source takes it as one step above the last
@@ -214,3 +215,23 @@ unfolding headerOf startOf syncOf hasOf skipBytesOf fieldOf readOf bitsValue bit
     checkOf sizeOf frameOf sideOf bands pairOf allocationOf allocationBandOf channelsOf selectorOf factorsOf placeOf copied sampleBandOf granuleOf
     granulesOf tableOf limitOf chosen serves sblimit rowsOf sourceRowOf widthOf quantiserOf
 cut-short = (refl, refl, refl)
+
+-- F9: four bytes that say 48 kbit/s, and true frames of 32 behind them. No header stands where a frame of the first would end, at byte 156;
+-- it is accepted, and a true header is then refused with 6
+abbrev falseStart : List ℕ
+falseStart = 0xFF ∷ 0xFD ∷ 0x20 ∷ 0xC0 ∷ mono32 (replicate 100 0 ++ mono32 (replicate 100 0))
+
+abbrev mono48 : Format
+mono48 = record { reading = plain; samplerate = 0; bitrate = 1; mode = 3; bound = 0 }
+
+pub unconfirmed : (first falseStart .header ≡ Accepted mono48 152) × (bitsValue falseStart (8 * 156) 12 ≡ 0) × HeaderFields falseStart 108
+    × (headerOf falseStart (readerAt 864) mono48 .header ≡ Refused 6)
+unfolding headerOf startOf syncOf hasOf skipBytesOf fieldOf readOf bitsValue bitAt firstFrom run _>>=_ fieldsOf identOf ratesOf restOf modeOf boundOf checkOf
+    sizeOf
+unconfirmed = (refl, refl, is-header falseStart 108 tt, refl)
+
+-- F10: a header cut behind its third byte is accepted: what is missing reads as 0, which is stereo
+pub cut-header : first (0 ∷ 0 ∷ 0 ∷ 0xFF ∷ 0xFD ∷ 0x10 ∷ []) ≡ record { header = Accepted stereo 100; next = readerAt 48 }
+unfolding headerOf startOf syncOf hasOf skipBytesOf fieldOf readOf bitsValue bitAt firstFrom run _>>=_ fieldsOf identOf ratesOf restOf modeOf boundOf checkOf
+    sizeOf
+cut-header = refl

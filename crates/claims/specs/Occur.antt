@@ -11,7 +11,7 @@ use lib.ListN.{length, replicate, length-replicate}
 use borrow.Author.Tests.{lt-ltb}
 use Rattle.ground.specs.First.{firstFrom}
 use Rattle.ground.specs.Table.{table, length-table}
-use Rattle.buffer.specs.Bits.{bitAt, bitsValue}
+use Rattle.buffer.specs.Bits.{longestStream, bitAt, bitsValue}
 use Rattle.buffer.specs.Calls.{readerAt, readOf, fieldOf, hasOf, skipBytesOf, searchOf}
 use Rattle.grammar.specs.Reads.{_>>=_, run}
 use Rattle.tables.specs.Standard.{rateOf}
@@ -115,11 +115,11 @@ long-length = length-table 16777217 (λ _. 0)
 
 pub eight-occurs : (memory output : ℕ) (a : Audio) → verdict long memory output a ≡ 8
 unfolding readyOf atOnceOf
-eight-occurs memory output a = simp (lt-ltb 16777216 (length long) (omega (arith, long-length)))
+eight-occurs memory output a = simp (lt-ltb longestStream (length long) (omega (arith, long-length)))
 
 pub eight-occurs-first : (memory : List Float) (a : Audio) → (openOf plain long memory .answer ≡ Refused 8) × (hasHeaderOf long a .answer ≡ Refused 8)
 unfolding openOf noRoomOf hasHeaderOf
-eight-occurs-first memory a = let many = lt-ltb 16777216 (length long) (omega (arith, long-length)) in (simp many, simp many)
+eight-occurs-first memory a = let many = lt-ltb longestStream (length long) (omega (arith, long-length)) in (simp many, simp many)
 
 -- ---- a call that is lent enough, and a past
 

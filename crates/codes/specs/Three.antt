@@ -10,7 +10,7 @@ use lib.Dec.{ltb}
 use lib.ListN.{length}
 use lib.Pow.{high, low}
 use Rattle.ground.specs.Tests.{by-test}
-use Rattle.buffer.specs.Bits.{bitsValue}
+use Rattle.buffer.specs.Bits.{bitsValue, longestStream, farthestBit}
 use Rattle.buffer.specs.Calls.{orZero, readOf, fieldOf, readerAt, left}
 use Rattle.buffer.specs.Laws.{split, bits-below, Enough, field-whole}
 use Rattle.buffer.specs.declared.Reader.{Reader}
@@ -29,8 +29,8 @@ pub moved-enough : (s : List ℕ) (r : Reader) (n : ℕ) → (fieldOf s r n .nex
 unfolding fieldOf readOf
 moved-enough s r n =
     let P : Read → Type 0 = λ x. (orZero r x .next .at .0 ≡ r .at .0 → ⊥) → Enough s r n in
-    by-test P (ltb 16777216 (length s)) _ _ (λ _ m. absurd (m refl))
-    (λ a. by-test P (ltb 134217736 (r .at .0)) _ _ (λ _ m. absurd (m refl))
+    by-test P (ltb longestStream (length s)) _ _ (λ _ m. absurd (m refl))
+    (λ a. by-test P (ltb farthestBit (r .at .0)) _ _ (λ _ m. absurd (m refl))
     (λ b. by-test P (ltb 32 n) _ _ (λ _ m. absurd (m refl))
     (λ _. by-test P (ltb (left s r) n) _ _ (λ _ m. absurd (m refl))
     (λ d _. record { short = ltb-false _ _ a; near = ltb-false _ _ b; enough = ltb-false _ _ d }))))

@@ -98,11 +98,11 @@ module _ (s : List ℕ) (q : Reader) where
     pub version-3 : version .value ≡ 3
     pub layer-2 : layer .value ≡ 2
 
-  -- .. and 4
+  -- .. and 4: 0 is free format, 15 is forbidden
   pub record BitrateGiven : Type 0 where
     pub ident : Identified
-    pub some-bitrate : bitrate .value ≡ 0 → ⊥
-    pub no-free-bitrate : bitrate .value ≡ 15 → ⊥
+    pub not-free : bitrate .value ≡ 0 → ⊥
+    pub not-forbidden : bitrate .value ≡ 15 → ⊥
 
   abbrev pub formatBy : Reading → Format
   formatBy reading =
@@ -250,7 +250,7 @@ module _ (s : List ℕ) (r : Reader) (short : length s ≤ longestStream) (near 
             rw (rates-course s q known, rest-course s q known)
             (by-test S (noBitrate s q known) _ _ (λ b. four room y l (either _ b (λ e. inl (eqb-true _ _ e)) (λ e. inr (eqb-true _ _ e))))
             (λ b. let n = neither (eqb (bitrate s q .value) 0) _ b in
-            let u : BitrateGiven s q = record { ident = l; some-bitrate = eqb-false _ _ (n .0); no-free-bitrate = eqb-false _ _ (n .1) } in
+            let u : BitrateGiven s q = record { ident = l; not-free = eqb-false _ _ (n .0); not-forbidden = eqb-false _ _ (n .1) } in
             by-test S (eqb (samplerate s q .value) 3) _ _ (λ f. five room y u (eqb-true _ _ f))
             (λ f. by-test S (other s q known) _ _ (λ d. six room y u (eqb-false _ _ f) (other-is-known s q known d) (other-is-not-same s q known d))
             (λ d. zero room y u (eqb-false _ _ f) (same-format known (formatBy s q (known .reading)) d)))))
@@ -294,7 +294,7 @@ module _ (s : List ℕ) (r : Reader) (short : length s ≤ longestStream) (near 
     rated-course {q} room y u =
         layer-course room y (u .ident)
         ∙ ap attempt
-        (rates-course s q known ∙ simp (ne-eqb _ _ (u .some-bitrate), ne-eqb _ _ (u .no-free-bitrate), rest-course s q known))
+        (rates-course s q known ∙ simp (ne-eqb _ _ (u .not-free), ne-eqb _ _ (u .not-forbidden), rest-course s q known))
 
     attempt-only : {n : ℕ} {x : Attempt} → Attempts s r known n x → (x ≡ headerOf s r known) × (headerNumber (x .header) ≡ n)
     attempt-only (one l) = (rw (few-bits-stay s r known short near l), refl)

@@ -1,5 +1,5 @@
--- The tables of ISO/IEC 11172-3, Layer II, as the standard prints them: bit rates and sampling rates (2.4.2.3), allocation
--- (Tables B.2a to B.2d) and quantisation (Table B.4).
+-- The tables of ISO/IEC 11172-3, Layer II, as four programs that follow it have them (docs/DIFFERENCES.md, "How the standard was read"):
+-- bit rates and sampling rates (2.4.2.3), allocation (Tables B.2a to B.2d) and quantisation (Table B.4).
 -- Assumes nothing.
 use Prim.Native.Nat.{ℕ, _/_}
 use mathlib.Core.Bool.{Bool, cond}
