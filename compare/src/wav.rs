@@ -6,6 +6,7 @@ use crate::corners;
 use crate::files::files;
 use crate::loud;
 use crate::seeded::Seeded;
+use crate::summary::summary;
 use crate::tally::{first_difference, hex, Tally};
 use std::io::{Read, Write};
 use std::process::{Command, Output, Stdio};
@@ -86,6 +87,12 @@ fn run(stream: &[u8], piece: usize) -> Output {
     })
 }
 
+/// A program has no exit status of its own; `./run` gives 1 where nothing was played.
+fn status(samples: &[f32]) -> i32 {
+    let by_run = std::env::var("WAV").is_ok_and(|words| words.starts_with("./run"));
+    (by_run && samples.is_empty()) as i32
+}
+
 struct Layer<'a> {
     tally: &'a mut Tally,
     sound: Sound,
@@ -96,7 +103,7 @@ impl Layer<'_> {
         self.handed(class, name, stream, WHOLE)
     }
 
-    /// One stream: exit status 0, nothing on standard error, and the file. Gives what the Rust plays.
+    /// One stream: exit status, the line on standard error, and the file. Gives what the Rust plays.
     fn handed(&mut self, class: &str, name: &str, stream: &[u8], piece: usize) -> Vec<f32> {
         self.tally.stream(class);
         let (samples, expected) = written(stream);
@@ -113,7 +120,7 @@ impl Layer<'_> {
         self.tally.same(
             kind,
             (output.status.code(), said, seen(&output.stdout)),
-            (Some(0), String::new(), seen(&expected)),
+            (Some(status(&samples)), summary(stream), seen(&expected)),
             || format!("{class}, {name}: first differing byte {at:?}; {}", hex(stream)),
         );
         samples
@@ -190,7 +197,7 @@ fn seeded(layer: &mut Layer, seed: u64, clips: &Clips) {
 
 /// [COUNT [SEED]]: the named streams, then so many seeded ones from SEED on.
 pub fn compare(tally: &mut Tally, words: &[String]) {
-    println!("wav: the program's exit status and every byte of its file");
+    println!("wav: the program's exit status, its line on standard error and every byte of its file");
     let number = |at: usize| words.get(at).map(|word| word.parse::<u64>().expect("a number"));
     let (count, first) = (number(0).unwrap_or(2_500), number(1).unwrap_or(0));
     let lavender = std::fs::read("clips/lavender.mp2").unwrap();

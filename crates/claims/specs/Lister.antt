@@ -3,7 +3,7 @@
 use Prim.Native.Nat.{ℕ, zero, suc, _+_, _*_, _/_, _<_}
 use mathlib.Core.Path.{_≡_, refl, ap}
 use mathlib.Core.Bool.{Bool, true, false, cond}
-use mathlib.Core.List.{List, [], _∷_, _++_, map, flatMap}
+use mathlib.Core.List.{List, [], _∷_, _++_, flatMap}
 use native.Mathlib.Omega.{arith}
 use lib.Dec.{eqb}
 use lib.Ieee.{Float}
@@ -21,10 +21,11 @@ use Rattle.audio.specs.Calls.{openOf}
 use Rattle.audio.specs.Numbers.{ends, answerNumber}
 use Rattle.audio.specs.declared.Answer.{Answer}
 use Rattle.audio.specs.declared.Answer.the-variants.{Frame, Refused}
+use Rattle.listing.specs.declared.Behind.the-variants.{Nothing, Words}
 use Rattle.listing.specs.declared.Line.{Line}
 use Rattle.listing.specs.declared.Line.the-variants.{Frame as FrameLine, Refused as RefusedLine, End, Long}
-use Rattle.listing.specs.Lines.{Shown, bytePosition, lineBy, isLast, nextOf, openingTold, openingShown, shownFrom, quiet, calledOf, tooLong, shownOf, linesOf}
-use Rattle.listing.specs.Text.{marksOf, textBy, textsOf, listingOf}
+use Rattle.listing.specs.Lines.{Shown, bytePosition, lineBy, isLast, nextOf, openingTold, openingShown, shownFrom, quiet, calledOf, tooLong, shownOf, linesIn, linesOf}
+use Rattle.listing.specs.Text.{textBy, textsOf, listingOf}
 use Rattle.past.specs.Calls.{Call, outcome}
 use Rattle.past.specs.Moves.{call-moves}
 use Rattle.heard.specs.Heard.{after, opening, Begun, opening-begun, begun-on}
@@ -63,9 +64,6 @@ no-end number (Refused n) a e = go (ends n) refl e
     go : (t : Bool) → ends n ≡ t → isLast (cond t (End n (bytePosition a)) (RefusedLine n (bytePosition a))) ≡ false → (n ≡ 1 → ⊥) × (n ≡ 7 → ⊥)
     go true t f = absurd (never refl f)
     go false t f = let h = neither (eqb n 1) (eqb n 7) t in (eqb-false n 1 (h .0), eqb-false n 7 (h .1))
-
-abbrev pub linesIn : List Shown → List Line
-linesIn = map (λ (x : Shown). x .line)
 
 abbrev pub lineAt : Call → Line
 lineAt c = nextOf (c .stream) (c .memory) (c .output) (c .state) .line
@@ -109,23 +107,29 @@ long-is-one-line s long = rw (lt-ltb 65536 (length s) long)
 
 -- ---- the text
 
--- a line's text: the lister marks none
+-- a line's text: the lister puts nothing behind it
 abbrev pub textOf : Line → List ℕ
-textOf line = textBy false line []
+textOf line = textBy Nothing line []
 
-unmarked : (line : Line) (samples : List Float) → textBy false line samples ≡ textOf line
-unfolding marksOf
-unmarked (FrameLine number at rate kbps mode bits time) samples = refl
-unmarked (RefusedLine number at) samples = refl
-unmarked (End number at) samples = refl
-unmarked Long samples = refl
-
-lines-text : (xs : List Shown) → textsOf false xs ≡ flatMap textOf (linesIn xs)
+lines-text : (xs : List Shown) → textsOf Nothing xs ≡ flatMap textOf (linesIn xs)
 unfolding textsOf flatMap
 lines-text [] = refl
-lines-text (x ∷ xs) = cc (unmarked (x .line) (x .samples), lines-text xs)
+lines-text (x ∷ xs) = ap (λ (more : List ℕ). textOf (x .line) ++ more) (lines-text xs)
 
 -- all that the lister writes is the text of its lines, one after the other
-pub listing-is-its-lines : (s : List ℕ) → listingOf false s ≡ flatMap textOf (linesOf s)
+pub listing-is-its-lines : (s : List ℕ) → listingOf Nothing s ≡ flatMap textOf (linesOf s)
 unfolding listingOf
 listing-is-its-lines s = lines-text (shownOf s)
+
+-- with words likewise, and the lines are the same
+abbrev pub wordedOf : Line → List ℕ
+wordedOf line = textBy Words line []
+
+worded-text : (xs : List Shown) → textsOf Words xs ≡ flatMap wordedOf (linesIn xs)
+unfolding textsOf flatMap
+worded-text [] = refl
+worded-text (x ∷ xs) = ap (λ (more : List ℕ). wordedOf (x .line) ++ more) (worded-text xs)
+
+pub worded-is-its-lines : (s : List ℕ) → listingOf Words s ≡ flatMap wordedOf (linesOf s)
+unfolding listingOf
+worded-is-its-lines s = worded-text (shownOf s)

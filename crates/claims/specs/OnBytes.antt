@@ -13,8 +13,9 @@ use borrow.Author.Tests.{lt-ltb, le-ltb, eqb-true, ltb-true, ltb-false}
 use Rattle.ground.specs.Tests.{by-test}
 use Rattle.ground.specs.First.{first-within}
 use Rattle.buffer.specs.Bits.{longestStream, farthestBit, bitsValue, otherAt, pastOf, stopOf}
-use Rattle.buffer.specs.Calls.{readerAt, left, readOf, fieldOf, hasOf, skipBytesOf, searchOf}
+use Rattle.buffer.specs.Calls.{bitOf, readerAt, left, readOf, fieldOf, hasOf, skipBytesOf, searchOf}
 use Rattle.buffer.specs.Laws.{Enough, field-whole, field-read, field-moves}
+use Rattle.buffer.specs.declared.BytePos.{BytePos}
 use Rattle.buffer.specs.declared.Reader.{Reader}
 use Rattle.grammar.specs.Reads.{Reads, done, ask, _>>=_, Ran, run}
 use Rattle.header.specs.Header.{bySearch, seekOf, syncOf, startOf, byStart, headerOf}
@@ -42,7 +43,7 @@ use Rattle.audio.specs.Calls.{answering, afterOf, framedOf, decodeOf}
 use Rattle.audio.specs.CallsLaws.{by-asking, by-opening}
 use Rattle.audio.specs.declared.Answer.{Answer}
 use Rattle.listing.specs.declared.Line.the-variants.{Frame}
-use Rattle.listing.specs.Lines.{bytePosition, lineBy, nextOf}
+use Rattle.listing.specs.Lines.{byteBefore, bytePosition, lineBy, nextOf}
 use Rattle.past.specs.Pasts.{Past, opened, asked as has-asked, rated, decoded, refused, relent}
 use Rattle.past.specs.Calls.{Call, outcome, firstBit, Accepts, verdict-of, accepted-known}
 use Rattle.past.specs.Sound.{sound-state-in-range}
@@ -272,11 +273,11 @@ module _ {c : Call} (past : Past (c .state) (c .memory)) (ok : Accepts c) where
       verdict-stands w (since-opening past) (verdict-of c) (verdict-kept w (verdict-of c) .some (accepted-known c ok))
 
   -- and the byte in the frame's line is that one: "byte after header and check word"
-  pub listed-where-it-begins : (at : ℕ) × (at * 8 ≡ firstBit c) × (let f = outcome c .state .format in
+  pub listed-where-it-begins : (at : BytePos) × (bitOf at .0 ≡ firstBit c) × (let f = outcome c .state .format in
       lineAt c ≡ Frame (c .state .frames) at (rateOf (f .samplerate)) (kbpsOf (f .bitrate)) (f .mode) (ok .bits) (ok .time))
   unfolding nextOf
   listed-where-it-begins = (
-    bytePosition (outcome c .state) - (ok .bits + 7) / 8,
+    byteBefore (bytePosition (outcome c .state)) (ok .bits),
     omega (arith, aligned-after-the-bits ok, frame-on-a-byte),
     ap (λ (x : Answer). lineBy (c .state .frames) x (outcome c .state)) (ok .answer),
   )

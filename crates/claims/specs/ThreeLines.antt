@@ -1,4 +1,4 @@
--- 01's example of a listing, for FF FD A0 00 and 622 zero bytes: its three lines, and their text. No sample is computed: the lines go by
+-- 01's example of a listing, for FF FD A0 00 and 622 zero bytes: its three lines, and their text, without words and with them. No sample is computed: the lines go by
 -- headers and bits. Assumes nothing.
 use Prim.Native.Nat.{ℕ, suc, _≤_}
 use mathlib.Core.Path.{_≡_, refl, sym, ap, _∙_}
@@ -12,6 +12,7 @@ use Rattle.ground.specs.First.{firstFrom}
 use Rattle.synthesis.specs.Slots.{memoryLength, outputLength}
 use Rattle.buffer.specs.Bits.{bitAt, bitsValue}
 use Rattle.buffer.specs.Calls.{readerAt, readOf, fieldOf, hasOf, skipBytesOf, searchOf}
+use Rattle.buffer.specs.declared.BytePos.{BytePos}
 use Rattle.buffer.specs.declared.Reader.{Reader}
 use Rattle.window.specs.Output.{nought}
 use Rattle.header.specs.Readings.{plain}
@@ -32,15 +33,19 @@ use Rattle.audio.specs.Calls.{openOf, answering, afterOf, framedOf, decodeOf}
 use Rattle.audio.specs.declared.Decoded.{Decoded}
 use Rattle.audio.specs.declared.Answer.{Answer}
 use Rattle.audio.specs.declared.Answer.the-variants.{Frame, Refused as RefusedAnswer}
+use Rattle.listing.specs.declared.Behind.the-variants.{Nothing, Words}
 use Rattle.listing.specs.declared.Line.{Line}
 use Rattle.listing.specs.declared.Line.the-variants.{Frame as FrameLine, Refused as RefusedLine, End}
 use Rattle.listing.specs.Lines.{lineBy, Shown, isLast, quiet, nextOf, openingShown, shownFrom, calledOf, shownOf, linesOf}
-use Rattle.listing.specs.Text.{digitsIn, decimalOf, numbered, marksOf, placeText, formatText, frameText, listingOf}
+use Rattle.listing.specs.Summary.{countedText, hundredthsOf, secondsText, framesText, reasonText, refusalText, refusalsText, linesText, summaryOf}
+use Rattle.listing.specs.Tally.{endFrom}
+use Rattle.listing.specs.Text.{digitsIn, decimalOf, numbered, bracketed, placeText, formatText, frameText, listingOf}
+use Rattle.listing.specs.Words.{letters, reasonOf, modeOf}
 use Rattle.past.specs.Calls.{Call, outcome, Accepts, accepted-leaves}
 use Rattle.heard.specs.Heard.{after, opening, Begun, opening-begun, begun-on}
 use Rattle.claims.specs.Widths.{aligned-after-the-bits}
 use Rattle.claims.specs.Example.{headed, opened-to-header, zeros-accepted, frame-state, begins-at-32, zeros-use-188-bits}
-use Rattle.claims.specs.Lister.{lineAt, linesFrom, textOf, listing-is-its-lines}
+use Rattle.claims.specs.Lister.{lineAt, linesFrom, textOf, listing-is-its-lines, wordedOf, worded-is-its-lines}
 
 -- ---- a call that is refused as it seeks a header
 
@@ -98,12 +103,15 @@ framedState = outcome first .state
 at-224 : framedState .reader ≡ readerAt 224
 at-224 = ap readerAt (aligned-after-the-bits accepted ∙ rw (begins-at-32 (quiet memoryLength) (quiet outputLength) memory-long output-long, 188-bits))
 
+abbrev pub atByte : ℕ → BytePos
+atByte n = record { 0 = n }
+
 frame-line : (number bits : ℕ) (time : Float) (a : Audio) → a .reader ≡ readerAt 224 → a .format ≡ cutFormat (headed .format) → bits ≡ 188
-    → lineBy number (Frame time bits) a ≡ FrameLine number 4 44100 192 0 188 time
+    → lineBy number (Frame time bits) a ≡ FrameLine number (atByte 4) 44100 192 0 188 time
 unfolding cutFormat
 frame-line number bits time a e f g = rw (e, f, g)
 
-first-line : lineAt first ≡ FrameLine 0 4 44100 192 0 188 nought
+first-line : lineAt first ≡ FrameLine 0 (atByte 4) 44100 192 0 188 nought
 unfolding nextOf fresh framedOf afterOf
 first-line =
     let same : Frame (accepted .time) (accepted .bits) ≡ framedOf zeros headed .answer = sym (accepted .answer) ∙ ap (λ (x : Decoded). x .answer) framed in
@@ -112,7 +120,7 @@ first-line =
     ap (λ (x : Asked). lineBy (x .state .frames) (outcome first .answer) framedState) opened-so
     ∙ ap (λ (x : Answer). lineBy 0 x framedState) (accepted .answer)
     ∙ frame-line 0 (accepted .bits) (accepted .time) framedState at-224 format 188-bits
-    ∙ ap (FrameLine 0 4 44100 192 0 188) on-time
+    ∙ ap (FrameLine 0 (atByte 4) 44100 192 0 188) on-time
 
 -- the second seeks a header and finds none, and the third has nothing left
 first-begun : Begun first
@@ -138,24 +146,24 @@ third-refused =
     (ap (λ (x : Decoded). x .state .pending) second-refused ∙ ap (λ (x : Decoded). x .state .pending) framed)
     (λ known. ap (λ (r : Reader). headerOf zeros r known) there ∙ few-bits-stay zeros (readerAt 5016) known (lit≤ tt) (lit≤ tt) (lit< tt))
 
-second-line : lineAt second ≡ RefusedLine 2 627
+second-line : lineAt second ≡ RefusedLine 2 (atByte 627)
 unfolding nextOf
 second-line = ap (λ (x : Decoded). lineBy (second .state .frames) (x .answer) (x .state)) second-refused
 
-third-line : lineAt third ≡ End 1 627
+third-line : lineAt third ≡ End 1 (atByte 627)
 unfolding nextOf
 third-line = ap (λ (x : Decoded). lineBy (third .state .frames) (x .answer) (x .state)) third-refused
 
 -- ---- and the listing
 
 abbrev pub threeLines : List Line
-threeLines = FrameLine 0 4 44100 192 0 188 nought ∷ RefusedLine 2 627 ∷ End 1 627 ∷ []
+threeLines = FrameLine 0 (atByte 4) 44100 192 0 188 nought ∷ RefusedLine 2 (atByte 627) ∷ End 1 (atByte 627) ∷ []
 
 called-so : linesFrom 315 first ≡ threeLines
 called-so =
     one-line 314 first _ first-line refl
-    ∙ ap {B = List Line} (λ more. FrameLine 0 4 44100 192 0 188 nought ∷ more)
-    (one-line 313 second _ second-line refl ∙ ap {B = List Line} (λ more. RefusedLine 2 627 ∷ more) (last-line 312 third _ third-line refl))
+    ∙ ap {B = List Line} (λ more. FrameLine 0 (atByte 4) 44100 192 0 188 nought ∷ more)
+    (one-line 313 second _ second-line refl ∙ ap {B = List Line} (λ more. RefusedLine 2 (atByte 627) ∷ more) (last-line 312 third _ third-line refl))
 
 pub three-lines : linesOf zeros ≡ threeLines
 unfolding shownOf calledOf
@@ -165,11 +173,23 @@ three-lines =
     ∙ called-so
 
 -- "frame 0 at 4 rate 44100 kbps 192 mode 0 bits 188", "refused 2 at 627", "end 1 at 627", each with a newline, in ASCII
-pub three-lines-text : listingOf false zeros ≡
+pub three-lines-text : listingOf Nothing zeros ≡
     102 ∷ 114 ∷ 97 ∷ 109 ∷ 101 ∷ 32 ∷ 48 ∷ 32 ∷ 97 ∷ 116 ∷ 32 ∷ 52 ∷ 32 ∷ 114 ∷ 97 ∷ 116 ∷ 101 ∷ 32 ∷ 52 ∷ 52 ∷ 49 ∷ 48 ∷
     48 ∷ 32 ∷ 107 ∷ 98 ∷ 112 ∷ 115 ∷ 32 ∷ 49 ∷ 57 ∷ 50 ∷ 32 ∷ 109 ∷ 111 ∷ 100 ∷ 101 ∷ 32 ∷ 48 ∷ 32 ∷ 98 ∷ 105 ∷ 116 ∷ 115 ∷
     32 ∷ 49 ∷ 56 ∷ 56 ∷ 10 ∷
     114 ∷ 101 ∷ 102 ∷ 117 ∷ 115 ∷ 101 ∷ 100 ∷ 32 ∷ 50 ∷ 32 ∷ 97 ∷ 116 ∷ 32 ∷ 54 ∷ 50 ∷ 55 ∷ 10 ∷
     101 ∷ 110 ∷ 100 ∷ 32 ∷ 49 ∷ 32 ∷ 97 ∷ 116 ∷ 32 ∷ 54 ∷ 50 ∷ 55 ∷ 10 ∷ []
-unfolding flatMap marksOf frameText formatText placeText numbered decimalOf digitsIn
+unfolding flatMap frameText formatText placeText numbered decimalOf digitsIn
 three-lines-text = listing-is-its-lines zeros ∙ ap (flatMap textOf) three-lines
+
+-- with words behind each line
+pub three-lines-worded : listingOf Words zeros ≡
+    letters "frame 0 at 4 rate 44100 kbps 192 mode 0 bits 188 (stereo)\nrefused 2 at 627 (no sync found)\nend 1 at 627 (no header can follow)\n"
+unfolding flatMap frameText formatText placeText numbered decimalOf digitsIn bracketed modeOf reasonOf
+three-lines-worded = worded-is-its-lines zeros ∙ ap (flatMap wordedOf) three-lines
+
+-- and in one line: 1,152 samples at 44,100 a second are 0.026 seconds
+pub three-lines-summary : summaryOf zeros ≡
+    letters "1 frame, 0.03 s; 1 call refused with 2 (no sync found) from byte 627; ended with 1 (no header can follow)\n"
+unfolding summaryOf linesText framesText countedText hundredthsOf secondsText refusalsText refusalText reasonText endFrom flatMap numbered decimalOf digitsIn bracketed reasonOf
+three-lines-summary = ap linesText three-lines

@@ -1,3 +1,7 @@
 pub mod Lines
 pub mod Fnv
+pub mod Words
 pub mod Text
+pub mod TextLaws
+pub mod Tally
+pub mod Summary

@@ -5,6 +5,8 @@ use mathlib.Core.List.{List, [], _∷_, _++_, map}
 use lib.Dec.{leb, ltb}
 use lib.Ieee.{Float}
 use lib.ListN.{length, replicate}
+use Rattle.buffer.specs.Calls.{bytePosOf, byteAfterOf}
+use Rattle.buffer.specs.declared.BytePos.{BytePos}
 use Rattle.window.specs.Output.{nought}
 use Rattle.synthesis.specs.Slots.{memoryLength, outputLength}
 use Rattle.header.specs.Readings.{plain}
@@ -22,15 +24,19 @@ use Rattle.listing.specs.declared.Line.the-variants.{Frame as FrameLine,
 use Rattle.listing.specs.declared.Listed.{Listed}
 
 -- "byte position afterwards, rounded down"
-abbrev pub bytePosition : Audio → ℕ
-bytePosition a = a .reader .at .0 / 8
+abbrev pub bytePosition : Audio → BytePos
+bytePosition a = bytePosOf (a .reader .at)
+
+-- the byte before a position by so many bits, rounded up to bytes
+abbrev pub byteBefore : BytePos → ℕ → BytePos
+byteBefore end bits = record { 0 = end .0 - byteAfterOf (record { 0 = bits }) .0 }
 
 -- a frame: "number from 0, byte after header and check word, rate, kbps, mode, bits used"; its start time stands beside it for replay.
 -- Its first bit is a byte's first, so that byte lies before the aligned position by the bits used, rounded up to bytes.
 -- "calls until 1 or 7": those end the list
 abbrev pub lineBy : ℕ → Answer → Audio → Line
 lineBy number (Frame time bits) a =
-    FrameLine number (bytePosition a - (bits + 7) / 8) (rateOf (a .format .samplerate)) (kbpsOf (a .format .bitrate)) (a .format .mode) bits time
+    FrameLine number (byteBefore (bytePosition a) bits) (rateOf (a .format .samplerate)) (kbpsOf (a .format .bitrate)) (a .format .mode) bits time
 lineBy number (Refused n) a = cond (ends n) (End n (bytePosition a)) (RefusedLine n (bytePosition a))
 
 -- a call's line, and the state after it
@@ -96,6 +102,9 @@ tooLong s = ltb 65536 (length s)
 unfoldable pub shownOf : List ℕ → List Shown
 shownOf s = cond (tooLong s) (shown Long [] ∷ []) (calledOf s)
 
+abbrev pub linesIn : List Shown → List Line
+linesIn = map (λ (x : Shown). x .line)
+
 -- the whole listing of a stream
 abbrev pub linesOf : List ℕ → List Line
-linesOf s = map (λ (x : Shown). x .line) (shownOf s)
+linesOf s = linesIn (shownOf s)

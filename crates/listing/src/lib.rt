@@ -1,16 +1,17 @@
 // What is in a clip, call by call: the lines of 01's lister, before they are text.
 use audio::Answer;
+use buffer::BitIndex;
+use buffer::BytePos;
 use state::Audio;
 ghost use mathlib.Core.Path.{_≡_};
-ghost use Prim.Native.Nat.{_+_, _-_, _/_};
 ghost use Rattle.tables.specs.Standard.{kbpsOf, rateOf};
 ghost use Rattle.audio.specs.Calls.{decodeMemory, decodeOutput};
-ghost use Rattle.listing.specs.Lines.{bytePosition, isLast, lineBy, nextOf};
+ghost use Rattle.listing.specs.Lines.{byteBefore, bytePosition, isLast, lineBy, nextOf, openingTold};
 
 pub enum Line {
     Frame {
         number: u32,
-        at: usize,
+        at: BytePos,
         rate: u32,
         kbps: u32,
         mode: u32,
@@ -19,13 +20,20 @@ pub enum Line {
     },
     Refused {
         number: u32,
-        at: usize,
+        at: BytePos,
     },
     End {
         number: u32,
-        at: usize,
+        at: BytePos,
     },
     Long,
+}
+
+// What stands behind a line's text: nothing in 01's listing, a frame's marks in replay's, and for people what the line means.
+pub enum Behind {
+    Nothing,
+    Marks,
+    Words,
 }
 
 pub struct Listed {
@@ -34,20 +42,24 @@ pub struct Listed {
 }
 
 // The byte position, rounded down.
-pub fn byte_of(a: Audio) -> usize
+pub fn byte_of(a: Audio) -> BytePos
     ensures { λ r. ⌜ r ≡ bytePosition a ⌝ }
 {
     let reader = a.reader;
     let at = reader.at;
-    at.0 / 8
+    at.byte()
 }
 
 // The byte before `end` by `bits`, rounded up to bytes.
-fn byte_before(end: usize, bits: usize) -> usize
-    ensures { λ r. ⌜ r ≡ end - (bits + 7) / 8 ⌝ }
+fn byte_before(end: BytePos, bits: usize) -> BytePos
+    ensures { λ r. ⌜ r ≡ byteBefore end bits ⌝ }
 {
-    let bytes = bits / 8 + (bits % 8 + 7) / 8;
-    if bytes < end { end - bytes } else { 0 }
+    let used = BitIndex(bits);
+    let bytes = used.byte_after();
+    if bytes.0 < end.0 {
+        return BytePos(end.0 - bytes.0);
+    }
+    BytePos(0)
 }
 
 fn rate(samplerate: usize) -> u32
@@ -78,6 +90,13 @@ pub fn is_last(line: Line) -> bool
         Line::End { .. } => true,
         Line::Long => true,
     }
+}
+
+// Whether a refused opening has a line: one that gave 1 is told by the first call.
+pub fn is_told(number: u32) -> bool
+    ensures { λ r. ⌜ r ≡ openingTold number ⌝ }
+{
+    (2 <= number) & (number <= 5)
 }
 
 // One decode call, and its line.

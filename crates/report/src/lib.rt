@@ -1,4 +1,5 @@
 // What is in a clip, as text: the opening's line, then call by call.
+use listing::Behind;
 use listing::Line;
 use scribe::Written;
 use verdict::Asked;
@@ -6,36 +7,26 @@ use verdict::Heading;
 ghost use mathlib.Core.Path.{_≡_};
 ghost use Prim.Native.Nat.{_+_, _^_, _<_, _≤_};
 ghost use lib.ListN.{length};
-ghost use Rattle.listing.specs.Lines.{openingShown, openingTold};
+ghost use Rattle.listing.specs.Lines.{openingShown};
 ghost use Rattle.listing.specs.Text.{listingOf, textsOf};
 ghost use Rattle.scribe.specs.Next.{Next};
 
-fn is_told(number: u32) -> bool
-    ensures { λ r. ⌜ r ≡ openingTold number ⌝ }
-{
-    (2 <= number) & (number <= 5)
-}
-
 // "An opening refused with 2 to 5 prints it too"; one refused with 1 is told by the first call.
-fn put_opening(stream: &[u8], marked: bool, done: Written, opened: Asked) -> Written
-    requires { ⌜ length (listingOf marked (now stream)) < 2 ^ 64 ⌝ }
-    requires { ⌜ Next (listingOf marked (now stream)) (done .bytes) (textsOf marked (openingShown (opened .answer) (opened .state))) ⌝ }
-    ensures { λ r. ⌜ r .bytes ≡ done .bytes + length (textsOf marked (openingShown (opened .answer) (opened .state))) ⌝ }
+fn put_opening(stream: &[u8], behind: Behind, done: Written, opened: Asked) -> Written
+    requires { ⌜ length (listingOf behind (now stream)) < 2 ^ 64 ⌝ }
+    requires { ⌜ Next (listingOf behind (now stream)) (done .bytes) (textsOf behind (openingShown (opened .answer) (opened .state))) ⌝ }
+    ensures { λ r. ⌜ r .bytes ≡ done .bytes + length (textsOf behind (openingShown (opened .answer) (opened .state))) ⌝ }
 {
     let state = opened.state;
     let answer = opened.answer;
     match answer {
         Heading::Known => done,
         Heading::Refused(number) => {
-            if is_told(number) {
-                return text::put_place(
-                    stream,
-                    marked,
-                    done,
-                    b"refused ",
-                    number,
-                    listing::byte_of(state),
-                );
+            if listing::is_told(number) {
+                let at = listing::byte_of(state);
+                let samples = [0.0f32; 0];
+                let line = Line::Refused { number, at };
+                return text::put_line(stream, behind, done, line, &samples);
             }
             done
         }
@@ -43,15 +34,15 @@ fn put_opening(stream: &[u8], marked: bool, done: Written, opened: Asked) -> Wri
 }
 
 // "calls until 1 or 7": on n bytes at most n/2 + 1 calls come before.
-fn list(stream: &[u8], marked: bool) -> Written
+fn list(stream: &[u8], behind: Behind) -> Written
     requires { ⌜ length (now stream) ≤ 65536 ⌝ }
-    ensures { λ r. ⌜ r .bytes ≡ length (listingOf marked (now (stream .entry))) ⌝ }
+    ensures { λ r. ⌜ r .bytes ≡ length (listingOf behind (now (stream .entry))) ⌝ }
 {
     let reading = header::plain();
     let mut memory = [0.0f32; synthesis::MEMORY];
     let mut output = [0.0f32; synthesis::OUTPUT];
     let opened = audio::new(stream, &mut memory, reading);
-    let mut done = put_opening(stream, marked, scribe::nothing_yet(), opened);
+    let mut done = put_opening(stream, behind, scribe::nothing_yet(), opened);
     let mut state = opened.state;
     let mut calls = stream.len() / 2 + 2;
     while 0 < calls {
@@ -59,7 +50,7 @@ fn list(stream: &[u8], marked: bool) -> Written
         let listed = listing::next_line(state, stream, &mut memory, &mut output);
         state = listed.state;
         let line = listed.line;
-        done = text::put_line(stream, marked, done, line, &output);
+        done = text::put_line(stream, behind, done, line, &output);
         if listing::is_last(line) {
             break;
         }
@@ -68,19 +59,12 @@ fn list(stream: &[u8], marked: bool) -> Written
 }
 
 // The listing of a stream: of more than 65,536 bytes the one line `long`.
-pub fn whole(stream: &[u8], marked: bool) -> Written
-    ensures { λ r. ⌜ r .bytes ≡ length (listingOf marked (now (stream .entry))) ⌝ }
+pub fn whole(stream: &[u8], behind: Behind) -> Written
+    ensures { λ r. ⌜ r .bytes ≡ length (listingOf behind (now (stream .entry))) ⌝ }
 {
     if stream.len() <= 65536 {
-        return list(stream, marked);
+        return list(stream, behind);
     }
     let samples = [0.0f32; 0];
-    text::put_line(stream, marked, scribe::nothing_yet(), Line::Long, &samples)
-}
-
-// The listing of what a file holds.
-pub fn file(fd: i32, marked: bool) {
-    let mut stream = [0u8; 65537];
-    let n = io::read_full(fd, &mut stream);
-    whole(&stream[..n], marked);
+    text::put_line(stream, behind, scribe::nothing_yet(), Line::Long, &samples)
 }

@@ -1,14 +1,23 @@
-// What the programs write, and the only place that writes it: each piece of a listing or of a WAVE file, where it comes next.
+// What the programs write of a stream, and the only place that writes it: each piece of a listing, of a summary or of a WAVE file, where it
+// comes next.
+use libc::STDERR_FILENO;
 use libc::STDOUT_FILENO;
+use listing::Behind;
 ghost use mathlib.Core.Bool.{false};
 ghost use mathlib.Core.Path.{_≡_};
 ghost use Prim.Native.Nat.{_+_, _^_, _<_};
 ghost use lib.ListN.{length};
-ghost use Rattle.listing.specs.Text.{listingOf};
-ghost use Rattle.clip.specs.File.{waveOf};
 ghost use Rattle.scribe.specs.Next.{Next};
+ghost use Rattle.scribe.specs.Whole.{descriptorOf, wholeOf};
 
-// How much of a text is written. The fields are this crate's alone: a count comes from `nothing_yet` and `put_..`, and from nowhere else.
+// A stream's listing, its summary in one line, or its WAVE file.
+pub enum Whole {
+    Lines(Behind),
+    Summary,
+    Wave,
+}
+
+// How much of a text is written. The fields are this crate's alone: a count comes from `nothing_yet` and `put`, and from nowhere else.
 // After a write that failed nothing more is written.
 pub struct Written {
     bytes: usize,
@@ -31,8 +40,21 @@ pub fn has_failed(done: Written) -> bool
     done.failed
 }
 
-fn put(done: Written, piece: &[u8]) -> Written
+// The summary is for whoever looks on: it goes to standard error, so that standard output has the listing or the file and nothing else.
+fn descriptor(what: Whole) -> i32
+    ensures { λ r. ⌜ r ≡ descriptorOf what ⌝ }
+{
+    match what {
+        Whole::Lines(_) => STDOUT_FILENO,
+        Whole::Summary => STDERR_FILENO,
+        Whole::Wave => STDOUT_FILENO,
+    }
+}
+
+// Nothing can be written of a stream but the piece that comes next.
+pub fn put(stream: &[u8], what: Whole, done: Written, piece: &[u8]) -> Written
     requires { ⌜ done .bytes + length (now piece) < 2 ^ 64 ⌝ }
+    requires { ⌜ Next (wholeOf what (now stream)) (done .bytes) (now piece) ⌝ }
     ensures { λ r. ⌜ r .bytes ≡ done .bytes + length (now (piece .entry)) ⌝ }
 {
     let bytes = done.bytes + piece.len();
@@ -42,24 +64,6 @@ fn put(done: Written, piece: &[u8]) -> Written
             failed: true,
         };
     }
-    let failed = !io::write_all(STDOUT_FILENO, piece);
+    let failed = !io::write_all(descriptor(what), piece);
     Written { bytes, failed }
-}
-
-// Nothing can be written of a stream's listing but the piece that comes next.
-pub fn put_listing(stream: &[u8], marked: bool, done: Written, piece: &[u8]) -> Written
-    requires { ⌜ done .bytes + length (now piece) < 2 ^ 64 ⌝ }
-    requires { ⌜ Next (listingOf marked (now stream)) (done .bytes) (now piece) ⌝ }
-    ensures { λ r. ⌜ r .bytes ≡ done .bytes + length (now (piece .entry)) ⌝ }
-{
-    put(done, piece)
-}
-
-// Nor of its WAVE file.
-pub fn put_wave(stream: &[u8], done: Written, piece: &[u8]) -> Written
-    requires { ⌜ done .bytes + length (now piece) < 2 ^ 64 ⌝ }
-    requires { ⌜ Next (waveOf (now stream)) (done .bytes) (now piece) ⌝ }
-    ensures { λ r. ⌜ r .bytes ≡ done .bytes + length (now (piece .entry)) ⌝ }
-{
-    put(done, piece)
 }

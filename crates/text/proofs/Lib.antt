@@ -1,3 +1,4 @@
 pub mod Prime
 pub mod Patterns
 pub mod Digits
+pub mod Pieces

@@ -1,5 +1,8 @@
-// Writes what is heard of a clip on standard input, at most 65,536 bytes, as a WAVE file on standard output.
+// Writes what is heard of a clip on standard input, at most 65,536 bytes, as a WAVE file on standard output. On standard error it ends
+// with the clip in one line.
+use libc::STDERR_FILENO;
 use libc::STDIN_FILENO;
+use scribe::Whole;
 use scribe::Written;
 ghost use Prim.Native.Nat.{_≤_};
 ghost use mathlib.Core.Path.{_≡_};
@@ -23,7 +26,7 @@ fn put_frames(stream: &[u8], done: Written, frames: usize) -> Written
     while i < frames {
         let reached = clip::next(playing, stream, &mut memory, &mut output);
         riff::write_samples(&output, &mut bytes);
-        told = scribe::put_wave(stream, told, &bytes);
+        told = scribe::put(stream, Whole::Wave, told, &bytes);
         playing = reached.playing;
         i += 1;
     }
@@ -37,7 +40,7 @@ fn put_file(stream: &[u8]) -> Written
 {
     let counted = clip::count(stream);
     let header = riff::header(counted.frames as u32, counted.rate);
-    let told = scribe::put_wave(stream, scribe::nothing_yet(), &header);
+    let told = scribe::put(stream, Whole::Wave, scribe::nothing_yet(), &header);
     put_frames(stream, told, counted.frames)
 }
 
@@ -51,10 +54,25 @@ fn whole(stream: &[u8]) -> Written
     scribe::nothing_yet()
 }
 
-fn main() {
+fn play() {
     let mut stream = [0u8; 65537];
-    let n = io::read_full(STDIN_FILENO, &mut stream);
+    let got = input::read(STDIN_FILENO, &mut stream);
+    if got.failed {
+        os::fail(b"standard input");
+        return;
+    }
+    let n = got.bytes;
     if scribe::has_failed(whole(&stream[..n])) {
         os::fail(b"standard output");
+        return;
+    }
+    summary::tell(&stream[..n]);
+}
+
+fn main() {
+    if os::arg_count() == 1 {
+        play();
+    } else {
+        io::write_all(STDERR_FILENO, b"usage: ./run wav < CLIP.mp2 > SOUND.wav\n");
     }
 }

@@ -1,8 +1,20 @@
-use mathlib.Core.Path.{ap, sym, _∙_}
-use Rattle.listing.specs.declared.Line.the-variants.{End, Refused}
+use Prim.Native.Nat.{ℕ}
+use mathlib.Core.Path.{_≡_, ap, sym, _∙_}
+use lib.Ieee.{Float}
+use Rattle.buffer.specs.declared.BytePos.{BytePos}
+use Rattle.tables.specs.Standard.{kbpsOf, rateOf}
+use Rattle.state.specs.declared.Audio.{Audio}
+use Rattle.audio.specs.declared.Answer.the-variants.{Frame as FrameAnswer}
+use Rattle.listing.specs.Lines.{byteBefore, bytePosition, lineBy}
+use Rattle.listing.specs.declared.Line.the-variants.{Frame, End, Refused}
 use borrow.Author.Needs.{needs}
 use Rattle.listing.proofs.line_of.Statement.{statement}
 use Rattle.listing.proofs.line_of.Tie as tie
+
+frame-line : (number bits rate kbps : ℕ) (time : Float) (a : Audio) (end at : BytePos) → end ≡ bytePosition a → at ≡ byteBefore end bits
+    → rate ≡ rateOf (a .format .samplerate) → kbps ≡ kbpsOf (a .format .bitrate)
+    → Frame number at rate kbps (a .format .mode) bits time ≡ lineBy number (FrameAnswer time bits) a
+frame-line number bits rate kbps time a end at e f g h = rw (f, e, g, h)
 
 byte-of-requires : tie.Need-byte-of-requires
 byte-of-requires c κs = search needs
@@ -34,12 +46,8 @@ returns c =
 returns-2 : tie.Need-returns-2
 returns-2 c =
     let frame = c .before .before .before .before in
-    rw (frame .answer .given .1) (cc (
-      c .kbps .ensures,
-      c .before .rate .ensures,
-      c .before .before .byte-before .ensures,
-      frame .before .before .byte-of .ensures,
-    ))
+    rw (frame .answer .given .1) (frame-line _ _ _ _ _ (frame .before .before .before .before .args .state) _ _ (frame .before .before .byte-of .ensures) (c .before .before .byte-before .ensures)
+    (c .before .rate .ensures) (c .kbps .ensures))
 
 returns-3 : tie.Need-returns-3
 returns-3 c =

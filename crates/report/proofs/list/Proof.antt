@@ -14,12 +14,12 @@ use Rattle.report.proofs.list.Tie as tie
 
 -- what is left to write is what the calls that are left will give
 abbrev Inv-loop : tie.InvT-loop
-Inv-loop stream marked memory₀ output₀ done₀ state₀ calls₀ memory output done state calls =
+Inv-loop stream behind memory₀ output₀ done₀ state₀ calls₀ memory output done state calls =
     (length memory ≡ memoryLength) × (length output ≡ outputLength)
-    × Rest (listingOf marked stream) (done .bytes) (textsOf marked (shownFrom calls stream memory output state))
+    × Rest (listingOf behind stream) (done .bytes) (textsOf behind (shownFrom calls stream memory output state))
 
 abbrev μ-loop : tie.MeasureT-loop
-μ-loop stream marked memory₀ output₀ done₀ state₀ calls₀ memory output done state calls = calls
+μ-loop stream behind memory₀ output₀ done₀ state₀ calls₀ memory output done state calls = calls
 
 plain-requires : tie.Need-plain-requires Inv-loop μ-loop
 plain-requires c κs = search needs

@@ -24,7 +24,7 @@ returns-2 : tie.Need-returns-2
 returns-2 c =
     let begun = c .before .before in
     let a = begun .before .before .before .args in
-    omega (arith, c .put-line .ensures, begun .nothing-yet .ensures .0, long-only (a .marked) (a .stream .now) (omega arith))
+    omega (arith, c .put-line .ensures, begun .nothing-yet .ensures .0, long-only (a .behind) (a .stream .now) (omega arith))
 
 pub whole-spec : {M : Type 1} → statement M
 whole-spec =

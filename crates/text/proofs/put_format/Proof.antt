@@ -2,27 +2,28 @@ use mathlib.Core.List.{_++_}
 use native.Mathlib.Omega.{arith}
 use lib.ListN.{length-append}
 use borrow.Author.Needs.{needs}
-use Rattle.listing.specs.Text.{rateWord, kbpsWord, modeWord, bitsWord, numbered, formatText, listingOf}
+use Rattle.listing.specs.Text.{rateWord, kbpsWord, modeWord, bitsWord, numbered, formatText}
+use Rattle.scribe.specs.Whole.{wholeOf}
 use Rattle.scribe.specs.Next.{Next, first-next, second-next}
 use Rattle.text.proofs.put_format.Statement.{statement}
 use Rattle.text.proofs.put_format.Tie as tie
 
 -- what is left behind each number
 behind-rate : (c : tie.After-put-number) → let a = c .before .before .before .args in
-    Next (listingOf (a .marked) (a .stream .now)) (c .put-number .result .bytes)
+    Next (wholeOf (a .what) (a .stream .now)) (c .put-number .result .bytes)
     (numbered kbpsWord (a .kbps) ++ (numbered modeWord (a .mode) ++ numbered bitsWord (a .bits)))
 unfolding formatText
 behind-rate c =
     let entry = c .before .before .before in second-next (numbered rateWord (entry .args .rate)) _ (c .put-number .ensures) (entry .pre .1)
 
 behind-kbps : (c : tie.After-put-number2) → let a = c .before .before .before .before .before .args in
-    Next (listingOf (a .marked) (a .stream .now)) (c .put-number2 .result .bytes) (numbered modeWord (a .mode) ++ numbered bitsWord (a .bits))
+    Next (wholeOf (a .what) (a .stream .now)) (c .put-number2 .result .bytes) (numbered modeWord (a .mode) ++ numbered bitsWord (a .bits))
 behind-kbps c =
     let before = c .before .before in
     second-next (numbered kbpsWord (before .before .before .before .args .kbps)) _ (c .put-number2 .ensures) (behind-rate before)
 
 behind-mode : (c : tie.After-put-number3) → let a = c .before .before .before .before .before .before .before .args in
-    Next (listingOf (a .marked) (a .stream .now)) (c .put-number3 .result .bytes) (numbered bitsWord (a .bits))
+    Next (wholeOf (a .what) (a .stream .now)) (c .put-number3 .result .bytes) (numbered bitsWord (a .bits))
 behind-mode c =
     let before = c .before .before in
     second-next (numbered modeWord (before .before .before .before .before .before .args .mode)) _ (c .put-number3 .ensures) (behind-kbps before)

@@ -2,14 +2,15 @@ use mathlib.Core.List.{_++_}
 use native.Mathlib.Omega.{arith}
 use lib.ListN.{length-append}
 use borrow.Author.Needs.{needs}
-use Rattle.listing.specs.Text.{frameWord, atWord, numbered, formatText, frameText, listingOf}
+use Rattle.listing.specs.Text.{frameWord, atWord, numbered, formatText, frameText}
+use Rattle.scribe.specs.Whole.{wholeOf}
 use Rattle.scribe.specs.Next.{Next, first-next, second-next}
 use Rattle.text.proofs.put_frame.Statement.{statement}
 use Rattle.text.proofs.put_frame.Tie as tie
 
 behind-number : (c : tie.After-put-number) → let a = c .before .before .before .args in
-    Next (listingOf (a .marked) (a .stream .now)) (c .put-number .result .bytes)
-    (numbered atWord (a .at) ++ formatText (a .rate) (a .kbps) (a .mode) (a .bits))
+    Next (wholeOf (a .what) (a .stream .now)) (c .put-number .result .bytes)
+    (numbered atWord (a .at .0) ++ formatText (a .rate) (a .kbps) (a .mode) (a .bits))
 unfolding frameText
 behind-number c =
     let entry = c .before .before .before in second-next (numbered frameWord (entry .args .number)) _ (c .put-number .ensures) (entry .pre .1)
@@ -31,7 +32,7 @@ put-format-requires : tie.Need-put-format-requires
 put-format-requires c κs =
     let numbered-only = c .before .before in
     let entry = numbered-only .before .before .before in
-    (entry .pre .0, second-next (numbered atWord (entry .args .at)) _ (c .put-number2 .ensures) (behind-number numbered-only))
+    (entry .pre .0, second-next (numbered atWord (entry .args .at .0)) _ (c .put-number2 .ensures) (behind-number numbered-only))
 
 returns : tie.Need-returns
 unfolding frameText
@@ -40,7 +41,7 @@ returns c =
     let numbered-only = placed .before .before in
     let a = numbered-only .before .before .before .args in
     let third = formatText (a .rate) (a .kbps) (a .mode) (a .bits) in
-    let second = numbered atWord (a .at) in
+    let second = numbered atWord (a .at .0) in
     omega (
       arith,
       c .put-format .ensures,

@@ -42,11 +42,11 @@ header-requires c κs = (omega (arith, small c .0), omega (arith, small c .1))
 nothing-yet-requires : tie.Need-nothing-yet-requires
 nothing-yet-requires c κs = search needs
 
-slice-aggregate-put-wave : tie.Need-slice-aggregate-put-wave
-slice-aggregate-put-wave c = search needs
+slice-aggregate-put : tie.Need-slice-aggregate-put
+slice-aggregate-put c = search needs
 
-put-wave-requires : tie.Need-put-wave-requires
-put-wave-requires c κs =
+put-requires : tie.Need-put-requires
+put-requires c κs =
     let yet = c .before in
     (omega (arith, yet .nothing-yet .ensures .0, yet .before .header .ensures .1), rest-next (yet .before .header .result) _ (begun yet))
 
@@ -54,7 +54,7 @@ put-frames-requires : tie.Need-put-frames-requires
 put-frames-requires c κs =
     let yet = c .before .before in
     let counted = yet .before .before .before in
-    let put = c .put-wave .ensures in (
+    let put = c .put .ensures in (
       (
         counted .before .before .pre,
         ap (λ (x : Counted). x .frames) (counted .count .ensures),
@@ -74,7 +74,7 @@ put-file-spec =
     cast-header
     header-requires
     nothing-yet-requires
-    slice-aggregate-put-wave
-    put-wave-requires
+    slice-aggregate-put
+    put-requires
     put-frames-requires
     returns)

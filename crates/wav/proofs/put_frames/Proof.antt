@@ -83,11 +83,11 @@ slice-aggregate-write-samples-2 c = search needs
 write-samples-requires : tie.Need-write-samples-requires Inv-loop μ-loop
 write-samples-requires c κs = search needs
 
-slice-aggregate-put-wave : tie.Need-slice-aggregate-put-wave Inv-loop μ-loop
-slice-aggregate-put-wave c = search needs
+slice-aggregate-put : tie.Need-slice-aggregate-put Inv-loop μ-loop
+slice-aggregate-put c = search needs
 
-put-wave-requires : tie.Need-put-wave-requires Inv-loop μ-loop
-put-wave-requires c κs =
+put-requires : tie.Need-put-requires Inv-loop μ-loop
+put-requires c κs =
     let made = c .before .before in
     let turn = at-next made in
     let head = at-loop turn in
@@ -112,13 +112,13 @@ loop-again c =
     let head = at-loop turn in
     let l = head .loop in
     let is = made .write-samples .ensures in
-    let on = put .put-wave .ensures ∙ ap (λ bytes. l .told .bytes + length bytes) is in (
+    let on = put .put .ensures ∙ ap (λ bytes. l .told .bytes + length bytes) is in (
       search needs,
       search needs,
       search needs,
       omega arith,
       rw (add-one (l .i)) (found turn .2),
-      omega (arith, put .put-wave .ensures, l .inv .5),
+      omega (arith, put .put .ensures, l .inv .5),
       rw (add-one (l .i)) (rest-behind (pcmOf (turn .next .last .1 .1 .1 .0)) _ on (left-at turn)),
     )
 
@@ -143,8 +143,8 @@ put-frames-spec =
     slice-aggregate-write-samples
     slice-aggregate-write-samples-2
     write-samples-requires
-    slice-aggregate-put-wave
-    put-wave-requires
+    slice-aggregate-put
+    put-requires
     add-i
     loop-less
     loop-again

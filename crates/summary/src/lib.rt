@@ -1,0 +1,138 @@
+// A stream in one line of words, on standard error: its frames, its refusals by their numbers, its end.
+use scribe::Whole;
+use scribe::Written;
+use tally::Kept;
+ghost use mathlib.Core.Path.{_≡_};
+ghost use Prim.Native.Nat.{_+_, _^_, _≤_, _<_};
+ghost use lib.ListN.{length};
+ghost use Rattle.listing.specs.Lines.{linesOf};
+ghost use Rattle.listing.specs.Summary.{countedText, framesText, hundredthsOf, reasonText, refusalText, refusalsText, secondsText, summaryOf};
+ghost use Rattle.scribe.specs.Next.{Next};
+ghost use Rattle.tally.specs.Tally.{tallyOf};
+
+// "1 frame", "2 frames".
+fn put_counted(stream: &[u8], done: Written, word: &[u8], n: u32, things: &[u8]) -> Written
+    requires { ⌜ length (summaryOf (now stream)) < 2 ^ 64 ⌝ }
+    requires { ⌜ Next (summaryOf (now stream)) (done .bytes) (countedText (now word) n (now things)) ⌝ }
+    ensures { λ r. ⌜ r .bytes ≡ done .bytes + length (countedText (now (word .entry)) n (now (things .entry))) ⌝ }
+{
+    let counted = text::put_number(stream, Whole::Summary, done, word, n as u64);
+    let named = scribe::put(stream, Whole::Summary, counted, things);
+    if n == 1 {
+        return named;
+    }
+    scribe::put(stream, Whole::Summary, named, b"s")
+}
+
+fn hundredths(frames: u32, rate: usize) -> u64
+    ensures { λ r. ⌜ r ≡ hundredthsOf frames rate ⌝ }
+{
+    if rate == 0 {
+        return 0;
+    }
+    (frames as u64 * 115200 + rate as u64 / 2) / rate as u64
+}
+
+fn put_seconds(stream: &[u8], done: Written, n: u64) -> Written
+    requires { ⌜ length (summaryOf (now stream)) < 2 ^ 64 ⌝ }
+    requires { ⌜ Next (summaryOf (now stream)) (done .bytes) (secondsText n) ⌝ }
+    ensures { λ r. ⌜ r .bytes ≡ done .bytes + length (secondsText n) ⌝ }
+{
+    let whole = text::put_number(stream, Whole::Summary, done, b", ", n / 100);
+    let tenth = text::put_number(stream, Whole::Summary, whole, b".", n / 10 % 10);
+    let hundredth = text::put_number(stream, Whole::Summary, tenth, b"", n % 10);
+    scribe::put(stream, Whole::Summary, hundredth, b" s")
+}
+
+fn put_frames(stream: &[u8], done: Written, frames: Kept) -> Written
+    requires { ⌜ length (summaryOf (now stream)) < 2 ^ 64 ⌝ }
+    requires { ⌜ Next (summaryOf (now stream)) (done .bytes) (framesText (frames .count) (frames .first)) ⌝ }
+    ensures { λ r. ⌜ r .bytes ≡ done .bytes + length (framesText (frames .count) (frames .first)) ⌝ }
+{
+    if frames.count == 0 {
+        return scribe::put(
+            stream,
+            Whole::Summary,
+            done,
+            b"0 frames: nothing was played",
+        );
+    }
+    let counted = put_counted(stream, done, b"", frames.count, b" frame");
+    put_seconds(stream, counted, hundredths(frames.count, frames.first))
+}
+
+// A number, and what it means.
+fn put_reason(stream: &[u8], done: Written, word: &[u8], number: u32) -> Written
+    requires { ⌜ length (summaryOf (now stream)) < 2 ^ 64 ⌝ }
+    requires { ⌜ Next (summaryOf (now stream)) (done .bytes) (reasonText (now word) number) ⌝ }
+    ensures { λ r. ⌜ r .bytes ≡ done .bytes + length (reasonText (now (word .entry)) number) ⌝ }
+{
+    let numbered = text::put_number(stream, Whole::Summary, done, word, number as u64);
+    let opened = scribe::put(stream, Whole::Summary, numbered, b" (");
+    let told = text::put_reason(stream, Whole::Summary, opened, number);
+    scribe::put(stream, Whole::Summary, told, b")")
+}
+
+// A number that no call was refused with is not told.
+fn put_refusal(stream: &[u8], done: Written, number: u32, refused: Kept) -> Written
+    requires { ⌜ length (summaryOf (now stream)) < 2 ^ 64 ⌝ }
+    requires { ⌜ Next (summaryOf (now stream)) (done .bytes) (refusalText number (refused .count) (refused .first)) ⌝ }
+    ensures { λ r. ⌜ r .bytes ≡ done .bytes + length (refusalText number (refused .count) (refused .first)) ⌝ }
+{
+    if refused.count == 0 {
+        return done;
+    }
+    let counted = put_counted(stream, done, b"; ", refused.count, b" call");
+    let named = put_reason(stream, counted, b" refused with ", number);
+    text::put_number(
+        stream,
+        Whole::Summary,
+        named,
+        b" from byte ",
+        refused.first as u64,
+    )
+}
+
+// 2 to 6 are the numbers of a call that was refused and is not the end.
+fn put_refusals(stream: &[u8], done: Written, refused: [Kept; 8]) -> Written
+    requires { ⌜ refused ≡ tallyOf (linesOf (now stream)) .refused ⌝ }
+    requires { ⌜ length (summaryOf (now stream)) < 2 ^ 64 ⌝ }
+    requires { ⌜ Next (summaryOf (now stream)) (done .bytes) (refusalsText (linesOf (now stream)) 2 5) ⌝ }
+    ensures { λ r. ⌜ r .bytes ≡ done .bytes + length (refusalsText (linesOf (now (stream .entry))) 2 5) ⌝ }
+{
+    let mut told = done;
+    let mut number: usize = 2;
+    while number < 7 {
+        let kept = refused[number];
+        told = put_refusal(stream, told, number as u32, kept);
+        number += 1;
+    }
+    told
+}
+
+fn put_lines(stream: &[u8]) -> Written
+    requires { ⌜ length (now stream) ≤ 65536 ⌝ }
+    ensures { λ r. ⌜ r .bytes ≡ length (summaryOf (now (stream .entry))) ⌝ }
+{
+    let tally = tally::count(stream);
+    let frames = tally.frames;
+    let refused = tally.refused;
+    let first = put_frames(stream, scribe::nothing_yet(), frames);
+    let second = put_refusals(stream, first, refused);
+    let third = put_reason(stream, second, b"; ended with ", tally.end);
+    scribe::put(stream, Whole::Summary, third, b"\n")
+}
+
+pub fn tell(stream: &[u8]) -> Written
+    ensures { λ r. ⌜ r .bytes ≡ length (summaryOf (now (stream .entry))) ⌝ }
+{
+    if stream.len() <= 65536 {
+        return put_lines(stream);
+    }
+    scribe::put(
+        stream,
+        Whole::Summary,
+        scribe::nothing_yet(),
+        b"too long: 65,536 bytes at most\n",
+    )
+}

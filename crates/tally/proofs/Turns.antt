@@ -1,0 +1,102 @@
+-- The listing as the pass goes through it: the opening's line, then call by call. Assumes nothing.
+use Prim.Native.Nat.{ℕ, zero, suc, _+_, _-_, _/_, _≤_, _<_}
+use mathlib.Core.Path.{_≡_, refl, sym, ap, _∙_}
+use mathlib.Core.Bool.{Bool, true, false, cond}
+use mathlib.Core.List.{List, [], _∷_, _++_, map, append-assoc, append-nil}
+use native.Mathlib.Omega.{arith}
+use lib.Ieee.{Float}
+use lib.ListN.{length, length-append}
+use borrow.Author.Tests.{le-ltb}
+use Rattle.ground.specs.Tests.{by-test}
+use Rattle.synthesis.specs.Slots.{memoryLength, outputLength}
+use Rattle.header.specs.Readings.{plain}
+use Rattle.header.specs.declared.Reading.{Reading}
+use Rattle.state.specs.declared.Audio.{Audio}
+use Rattle.verdict.specs.declared.Asked.{Asked}
+use Rattle.verdict.specs.declared.Heading.{Heading}
+use Rattle.verdict.specs.declared.Heading.the-variants.{Known, Refused}
+use Rattle.audio.specs.Calls.{openOf, openMemory, decodeMemory, decodeOutput}
+use Rattle.listing.specs.declared.Line.{Line}
+use Rattle.listing.specs.declared.Listed.{Listed}
+use Rattle.listing.specs.Lines.{Shown, isLast, nextOf, shownFrom, openingTold, openingShown, quiet, calledOf, shownOf, linesIn, linesOf}
+use Rattle.tally.specs.Tally.{addOf, tallyOf, Few}
+use Rattle.tally.specs.declared.Tally.{Tally}
+use Rattle.tally.proofs.Adds.{added, few}
+
+lines-append : (xs ys : List Shown) → linesIn (xs ++ ys) ≡ linesIn xs ++ linesIn ys
+lines-append [] ys = refl
+lines-append (x ∷ xs) ys = ap (λ (more : List Line). x .line ∷ more) (lines-append xs ys)
+
+called-lines : (s : List ℕ) → let opened = openOf plain s (quiet memoryLength) in
+    linesIn (calledOf s)
+    ≡ linesIn (openingShown (opened .answer) (opened .state))
+    ++ linesIn (shownFrom (length s / 2 + 2) s (openMemory s (quiet memoryLength)) (quiet outputLength) (opened .state))
+unfolding calledOf
+called-lines s = let opened = openOf plain s (quiet memoryLength) in lines-append (openingShown (opened .answer) (opened .state)) _
+
+one-opening : (answer : Heading) (a : Audio) → length (linesIn (openingShown answer a)) ≤ 1
+one-opening Known a = omega arith
+one-opening (Refused n) a = by-test (λ (xs : List Shown). length (linesIn xs) ≤ 1) (openingTold n) _ _ (λ _. omega arith) (λ _. omega arith)
+
+-- the lines that were added, and those that are left
+pub record Counted (s : List ℕ) (tally : Tally) (calls : ℕ) (rest : List Line) : Type 0 where
+  pub done : List Line
+  pub all : linesOf s ≡ done ++ rest
+  pub is : tally ≡ tallyOf done
+  pub room : length done + calls ≤ length s / 2 + 3
+
+module _ (s : List ℕ) (reading : Reading) (opened : Asked) (m : List Float) (tally : Tally) (short : length s ≤ 65536) (p : reading ≡ plain)
+    (e : opened ≡ openOf reading s (quiet memoryLength)) (f : m ≡ openMemory s (quiet memoryLength))
+    (t : tally ≡ tallyOf (linesIn (openingShown (opened .answer) (opened .state)))) where
+  pub begins : Counted s tally (length s / 2 + 2) (linesIn (shownFrom (length s / 2 + 2) s m (quiet outputLength) (opened .state)))
+  unfolding shownOf
+  begins =
+      record {
+        done = linesIn (openingShown (opened .answer) (opened .state));
+        all = rw (e, p, f, le-ltb 65536 (length s) short) (called-lines s);
+        is = t;
+        room = omega (arith, one-opening (opened .answer) (opened .state));
+      }
+
+module _ (s : List ℕ) (calls : ℕ) (memory output : List Float) (a : Audio) (tally : Tally) (short : length s ≤ 65536)
+    (left : Counted s tally calls (linesIn (shownFrom calls s memory output a))) where
+  pub none-left : calls ≡ 0 → tally ≡ tallyOf (linesOf s)
+  unfolding shownFrom
+  none-left z =
+      let all : linesOf s ≡ left .done = rw z at (left .all) ∙ append-nil (left .done) in
+      left .is ∙ ap tallyOf (sym all)
+
+  pub room-left : 0 < calls → (tally .frames .count < 100000) × Few (tally .refused)
+  room-left some = rw (left .is) (few (left .done) (omega (arith, left .room)))
+
+  module _ (x : Listed) (m o : List Float) (some : 0 < calls) (e : x ≡ nextOf s memory output a) (f : m ≡ decodeMemory s memory output a)
+      (g : o ≡ decodeOutput s memory output a) where
+    abbrev more : List Shown
+    more = shownFrom (calls - 1) s m o (x .state)
+
+    turn : (n : ℕ) → n ≡ calls → linesIn (shownFrom n s memory output a) ≡ x .line ∷ linesIn (cond (isLast (x .line)) [] more)
+    unfolding shownFrom
+    turn zero z = absurd (omega arith)
+    turn (suc n) z = let y : calls - 1 ≡ n = omega arith in rw (y, e, f, g)
+
+    module _ (next : Tally) (last : Bool) (n : next ≡ addOf tally (x .line)) (t : last ≡ isLast (x .line)) where
+      abbrev line : List Line
+      line = x .line ∷ []
+
+      so-far : next ≡ tallyOf (left .done ++ line)
+      so-far = n ∙ ap (λ (before : Tally). addOf before (x .line)) (left .is) ∙ sym (added (left .done) (x .line))
+
+      all-lines : linesOf s ≡ (left .done ++ line) ++ linesIn (cond (isLast (x .line)) [] more)
+      all-lines = left .all ∙ ap (λ (rest : List Line). left .done ++ rest) (turn calls refl) ∙ sym (append-assoc (left .done) line _)
+
+      pub after-last : last ≡ true → next ≡ tallyOf (linesOf s)
+      after-last h = so-far ∙ ap tallyOf (sym (rw (sym t ∙ h) at all-lines ∙ append-nil _))
+
+      pub after-other : last ≡ false → Counted s next (calls - 1) (linesIn more)
+      after-other h =
+          record {
+            done = left .done ++ line;
+            all = rw (sym t ∙ h) at all-lines;
+            is = so-far;
+            room = omega (arith, left .room, length-append (left .done) line);
+          }
