@@ -29,11 +29,9 @@ static void look(int number, siginfo_t *information, void *context) {
 
 static void play(size_t length) {
     struct tag_state s;
-    double start[1];
-    size_t bits[1];
-    tag_open(stream, length, memory, TAG_MEMORY, s.places, s.counts, s.time, 0);
-    while (tag_decode(stream, length, memory, TAG_MEMORY, output, TAG_OUTPUT,
-                      s.places, s.counts, s.time, start, bits) == TAG_DONE) {
+    struct tag_frame frame;
+    tag_state_open(&s, stream, length, memory, TAG_MEMORY, 0);
+    while (tag_state_decode(&s, stream, length, memory, TAG_MEMORY, output, TAG_OUTPUT, &frame) == TAG_SUCCEEDED) {
     }
 }
 

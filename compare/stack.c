@@ -5,32 +5,36 @@
 #include <string.h>
 #include <ucontext.h>
 
-enum { OPEN, HAS_HEADER, SAMPLERATE, DECODE, NOTHING, CALLS };
-static const char *const NAMES[CALLS] = {"tag_open", "tag_has_header", "tag_samplerate", "tag_decode", "no call"};
+enum { OPEN, HAS_HEADER, SAMPLERATE, DECODE, SAMPLES16, NOTHING, CALLS };
+static const char *const NAMES[CALLS] = {"tag_open", "tag_has_header", "tag_samplerate", "tag_decode", "tag_samples16", "no call"};
 #define PAINT 0xA5
 static _Alignas(64) unsigned char stack[1 << 18];
 static uint8_t stream[TAG_STREAM];
-static size_t length, deepest[CALLS], used[1];
+static size_t deepest[CALLS];
+static uint64_t length;
 static float memory[TAG_MEMORY], output[TAG_OUTPUT];
+static int16_t samples[TAG_OUTPUT];
 static struct tag_state s;
 static uint32_t number, rate[1];
-static double start[1];
+static struct tag_frame frame;
 static int which;
 
 static void call(void) {
     switch (which) {
     case OPEN:
-        number = tag_open(stream, length, memory, TAG_MEMORY, s.places, s.counts, s.time, 0);
+        number = tag_state_open(&s, stream, length, memory, TAG_MEMORY, 0);
         break;
     case HAS_HEADER:
-        number = tag_has_header(stream, length, s.places, s.counts, s.time);
+        number = tag_state_has_header(&s, stream, length);
         break;
     case SAMPLERATE:
-        number = tag_samplerate(s.places, s.counts, s.time, rate);
+        number = tag_state_samplerate(&s, rate);
         break;
     case DECODE:
-        number = tag_decode(stream, length, memory, TAG_MEMORY, output, TAG_OUTPUT,
-                            s.places, s.counts, s.time, start, used);
+        number = tag_state_decode(&s, stream, length, memory, TAG_MEMORY, output, TAG_OUTPUT, &frame);
+        break;
+    case SAMPLES16:
+        number = tag_samples16(output, TAG_OUTPUT, samples, TAG_OUTPUT);
         break;
     }
 }
@@ -66,6 +70,7 @@ static int on_file(const char *name) {
     do {
         measure(HAS_HEADER);
         measure(SAMPLERATE);
+        measure(SAMPLES16);
         measure(DECODE);
     } while (!tag_ends(number) && !tag_callers_mistake(number));
     return 0;
@@ -75,7 +80,7 @@ int main(int count, char **names) {
     for (int i = 1; i < count; i++)
         if (on_file(names[i]) != 0)
             return 2;
-    for (int i = OPEN; i <= DECODE; i++)
+    for (int i = OPEN; i <= SAMPLES16; i++)
         printf("%6zu bytes of stack  %s\n", deepest[i] - deepest[NOTHING], NAMES[i]);
     return 0;
 }

@@ -1,5 +1,6 @@
-//! The decoder's four calls, for Rust. Link target/staticlib/libtag.a, which `rt staticlib tag` writes. tag.h has the
-//! same calls for C and says what the numbers mean. No allocation, no panic; `core` is enough.
+//! The decoder's five calls, for Rust, in editions 2021 and 2024. Link libtag.a; README.md beside this file says where it
+//! comes from. tag.h has the same calls for C, and says what the numbers mean and what the processor has to do. No
+//! allocation, no panic; `core` is enough. Counts and places are 64 bits wide on every processor.
 #![allow(dead_code)]
 
 pub const STREAM: usize = 16_777_216;
@@ -7,14 +8,17 @@ pub const MEMORY: usize = 2_048;
 pub const OUTPUT: usize = 2_304;
 pub const PLACES: usize = 8;
 pub const COUNTS: usize = 8;
+/// The layout of a saved state: save it beside the state, and go on with no other.
+pub const LAYOUT: u32 = 1;
 
 /// What stands where in a decoder's `places`. The last two are kept for later, written 0 and not read today.
 pub mod place {
     pub const POSITION: usize = 0;
-    pub const SAMPLE_RATE_CODE: usize = 1;
-    pub const BIT_RATE_INDEX: usize = 2;
+    pub const SAMPLE_RATE: usize = 1;
+    pub const BIT_RATE: usize = 2;
     pub const BOUND: usize = 3;
     pub const PENDING: usize = 4;
+    /// The place of the last slot in the memory.
     pub const RING: usize = 5;
     pub const FRAME_END: usize = 6;
     pub const SKIPPED: usize = 7;
@@ -31,70 +35,76 @@ pub mod count {
 pub mod boundary {
     use super::{COUNTS, PLACES};
 
-    extern "C" {
+    unsafe extern "C" {
         pub fn tag_open(
             stream: *const u8,
-            length: usize,
+            stream_count: u64,
             memory: *mut f32,
-            memory_count: usize,
-            places: *mut [usize; PLACES],
+            memory_count: u64,
+            places: *mut [u64; PLACES],
             counts: *mut [u32; COUNTS],
             time: *mut [f64; 1],
             choices: u32,
         ) -> u32;
         pub fn tag_has_header(
             stream: *const u8,
-            length: usize,
-            places: *mut [usize; PLACES],
+            stream_count: u64,
+            places: *mut [u64; PLACES],
             counts: *mut [u32; COUNTS],
             time: *mut [f64; 1],
         ) -> u32;
         pub fn tag_samplerate(
-            places: *const [usize; PLACES],
+            places: *const [u64; PLACES],
             counts: *const [u32; COUNTS],
             time: *const [f64; 1],
             rate: *mut [u32; 1],
         ) -> u32;
         pub fn tag_decode(
             stream: *const u8,
-            length: usize,
+            stream_count: u64,
             memory: *mut f32,
-            memory_count: usize,
+            memory_count: u64,
             output: *mut f32,
-            output_count: usize,
-            places: *mut [usize; PLACES],
+            output_count: u64,
+            places: *mut [u64; PLACES],
             counts: *mut [u32; COUNTS],
             time: *mut [f64; 1],
             start: *mut [f64; 1],
-            bits: *mut [usize; 1],
+            bits: *mut [u64; 1],
         ) -> u32;
+        pub fn tag_samples16(output: *const f32, output_count: u64, samples: *mut i16, samples_count: u64) -> u32;
     }
 }
 
-/// Why a call did not do what it was asked for: document 01's number, 1 to 10.
+/// Why a call did not do what it was asked for: document 01's number, with the names of crates/audio/specs/Numbers.
 #[derive(Clone, Copy, Debug, PartialEq, Eq)]
 pub struct Refusal(pub u32);
 
 impl Refusal {
-    pub const END: Refusal = Refusal(1);
+    pub const NO_HEADER_CAN_FOLLOW: Refusal = Refusal(1);
     pub const NO_SYNC: Refusal = Refusal(2);
     pub const OTHER_LAYER: Refusal = Refusal(3);
-    pub const BIT_RATE: Refusal = Refusal(4);
-    pub const SAMPLE_RATE: Refusal = Refusal(5);
+    pub const NO_BIT_RATE: Refusal = Refusal(4);
+    pub const NO_SAMPLE_RATE: Refusal = Refusal(5);
     pub const OTHER_FORMAT: Refusal = Refusal(6);
     pub const CUT_OFF: Refusal = Refusal(7);
     pub const LONG_STREAM: Refusal = Refusal(8);
     pub const LITTLE_ROOM: Refusal = Refusal(9);
     pub const BAD_STATE: Refusal = Refusal(10);
 
-    /// Whether no later call on the same stream decodes anything.
+    /// Whether no later call on the same stream decodes anything. If the stream grows, the next call goes on in it.
     pub fn ends(self) -> bool {
-        self == Refusal::END || self == Refusal::CUT_OFF
+        self == Refusal::NO_HEADER_CAN_FOLLOW || self == Refusal::CUT_OFF
     }
 
     /// Whether the caller lent or saved something wrong: the same call gives the same number until that is mended.
     pub fn callers_mistake(self) -> bool {
         self == Refusal::LONG_STREAM || self == Refusal::LITTLE_ROOM || self == Refusal::BAD_STATE
+    }
+
+    /// Whether a player's loop goes on. After every number but 1, 7, 8, 9 and 10 the next call may give a frame.
+    pub fn goes_on(self) -> bool {
+        !self.ends() && !self.callers_mistake()
     }
 }
 
@@ -102,19 +112,23 @@ impl Refusal {
 #[derive(Clone, Copy, Debug, PartialEq)]
 pub struct Frame {
     pub start: f64,
-    pub bits: usize,
+    pub bits: u64,
 }
 
-/// A decoder's state, as plain numbers. With its memory it can be kept and taken up again.
+/// A decoder's state, as plain numbers, laid out as C's `struct tag_state`. With its memory it can be kept between two
+/// calls and taken up again, on any processor; the time bit for bit.
+#[repr(C)]
 #[derive(Clone, Copy, Debug, PartialEq)]
 pub struct Decoder {
     /// See `place`.
-    pub places: [usize; PLACES],
+    pub places: [u64; PLACES],
     /// See `count`.
     pub counts: [u32; COUNTS],
     /// When the next frame starts, in seconds.
     pub time: [f64; 1],
 }
+
+const _: () = assert!(core::mem::size_of::<Decoder>() == 104);
 
 fn answer<T>(number: u32, value: T) -> Result<T, Refusal> {
     match number {
@@ -132,8 +146,8 @@ impl Decoder {
             counts: [0; COUNTS],
             time: [0.0],
         };
-        let (data, length) = (stream.as_ptr(), stream.len());
-        let (ring, room) = (memory.as_mut_ptr(), memory.len());
+        let (data, length) = (stream.as_ptr(), stream.len() as u64);
+        let (ring, room) = (memory.as_mut_ptr(), memory.len() as u64);
         let (places, counts, time) = (&mut d.places, &mut d.counts, &mut d.time);
         // Safe, here and below: each pointer and length is that of a slice or an array lent for the call.
         let number = unsafe { boundary::tag_open(data, length, ring, room, places, counts, time, choices) };
@@ -142,8 +156,9 @@ impl Decoder {
 
     /// Whether a header is known; if none is, the next one is tried.
     pub fn has_header(&mut self, stream: &[u8]) -> Result<(), Refusal> {
+        let (data, length) = (stream.as_ptr(), stream.len() as u64);
         let (places, counts, time) = (&mut self.places, &mut self.counts, &mut self.time);
-        let number = unsafe { boundary::tag_has_header(stream.as_ptr(), stream.len(), places, counts, time) };
+        let number = unsafe { boundary::tag_has_header(data, length, places, counts, time) };
         answer(number, ())
     }
 
@@ -154,17 +169,18 @@ impl Decoder {
         answer(number, rate[0])
     }
 
-    /// The next frame, to the output's first 2,304 values. A refusal leaves memory and output.
+    /// The next frame, to the output's first 2,304 values. 1.0 is full scale, and a loud clip goes beyond it. A refusal
+    /// leaves memory and output.
     pub fn decode(&mut self, stream: &[u8], memory: &mut [f32], output: &mut [f32]) -> Result<Frame, Refusal> {
         let (mut start, mut bits) = ([0.0], [0]);
         let number = unsafe {
             boundary::tag_decode(
                 stream.as_ptr(),
-                stream.len(),
+                stream.len() as u64,
                 memory.as_mut_ptr(),
-                memory.len(),
+                memory.len() as u64,
                 output.as_mut_ptr(),
-                output.len(),
+                output.len() as u64,
                 &mut self.places,
                 &mut self.counts,
                 &mut self.time,
@@ -178,4 +194,12 @@ impl Decoder {
         };
         answer(number, frame)
     }
+}
+
+/// A frame's values as a converter wants them: 16 bits, rounded to nearest, halves away from zero, and held within the
+/// range. Refused with 9, and nothing is written, if either has fewer than 2,304 places.
+pub fn samples16(output: &[f32], samples: &mut [i16]) -> Result<(), Refusal> {
+    let (values, count) = (output.as_ptr(), output.len() as u64);
+    let number = unsafe { boundary::tag_samples16(values, count, samples.as_mut_ptr(), samples.len() as u64) };
+    answer(number, ())
 }

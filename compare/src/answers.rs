@@ -77,7 +77,14 @@ pub fn print(folder: &Path) {
 /// The state as the tag's arrays hold it: six places, two counts, and the next start.
 fn state(audio: &Audio) -> String {
     let (f, (frames, time)) = (audio.format(), audio.clock());
-    let places = [audio.at(), f.samplerate_index, f.bitrate_index, f.bound, audio.pending(), audio.ring()];
+    let places = [
+        audio.at(),
+        f.samplerate_index,
+        f.bitrate_index,
+        f.bound,
+        audio.pending(),
+        audio.ring(),
+    ];
     let places = places.map(|n| n.to_string()).join(" ");
     format!("{places} {} {frames} {:016x}", f.mode, time.to_bits())
 }
@@ -103,7 +110,11 @@ pub fn across() {
         };
         assert_eq!(samples.time.to_bits(), start.to_bits(), "the start");
         let (rate, bits) = (audio.samplerate(), audio.used().1);
-        let told = format!("{rate} {:016x} {bits} {:016x}", samples.time.to_bits(), checksum(&samples.interleaved));
+        let told = format!(
+            "{rate} {:016x} {bits} {:016x}",
+            samples.time.to_bits(),
+            checksum(&samples.interleaved)
+        );
         println!("decode 0 {} {told}", state(&audio));
     }
 }

@@ -1,9 +1,11 @@
 //! The port's decoder and the Rust's side by side. Each call is made on both, and everything is compared: the number,
 //! the state with the bits of its time, a frame's start and the bits it used, memory and output by their bits, and
-//! what is lent beyond them. The Rust answers a refusal with None; its number is told by `by_01`.
+//! what is lent beyond them; of a frame also its 16-bit samples. The Rust answers a refusal with None; its number is told
+//! by `by_01`, and what 16 bits a sample has by `by_02`.
 
 use crate::by_01::{by_01, decode_by_01};
-use crate::firmware::{Decoder, Refusal, COUNTS, MEMORY, OUTPUT, PLACES};
+use crate::by_02::steps;
+use crate::firmware::{samples16, Decoder, Refusal, COUNTS, MEMORY, OUTPUT, PLACES};
 use crate::saved::{fresh, written};
 use crate::source::traced::audio::Audio;
 use crate::source::{Format, NO_FORMAT};
@@ -13,7 +15,10 @@ use crate::tally::{hex, Tally};
 pub const GUARD: f32 = 12_345.678;
 
 /// The state as both sides have it: places, counts, the bits of the next start time.
-pub type State = ([usize; PLACES], [u32; COUNTS], u64);
+pub type State = ([u64; PLACES], [u32; COUNTS], u64);
+
+/// The same for 16-bit samples.
+const MARK: i16 = 12_345;
 
 pub struct Both<'a> {
     tally: &'a mut Tally,
@@ -43,14 +48,15 @@ fn source_state(audio: &Audio, rest: &Decoder) -> State {
     let f = audio.format();
     let (frames, time) = audio.clock();
     let (mut places, mut counts) = (rest.places, rest.counts);
-    places[..6].copy_from_slice(&[
+    let told = [
         audio.at(),
         f.samplerate_index,
         f.bitrate_index,
         f.bound,
         audio.pending(),
         audio.ring(),
-    ]);
+    ];
+    places[..6].copy_from_slice(&told.map(|place| place as u64));
     counts[..2].copy_from_slice(&[f.mode as u32, frames as u32]);
     (places, counts, time.to_bits())
 }
@@ -107,7 +113,7 @@ impl<'a> Both<'a> {
 
     /// Takes up a state that is in range, with its memory: 2,048 values and the guard.
     pub fn resume(tally: &'a mut Tally, name: &'a str, stream: &[u8], ours: Decoder, memory: Vec<f32>) -> Self {
-        let [at, samplerate_index, bitrate_index, bound, pending, ring, _, _] = ours.places;
+        let [at, samplerate_index, bitrate_index, bound, pending, ring, _, _] = ours.places.map(|place| place as usize);
         let mode = ours.counts[0] as usize;
         let mut audio = Audio::new(Vec::new());
         let format = Format {
@@ -192,12 +198,30 @@ impl<'a> Both<'a> {
         let told = match self.audio.decode() {
             Some(samples) => {
                 self.heard = samples.interleaved;
-                Ok((samples.time.to_bits(), self.audio.used().1))
+                Ok((samples.time.to_bits(), self.audio.used().1 as u64))
             }
             None => Err(Refusal(reading.number)),
         };
         self.answered("decode", reading.number, ours, told, stream);
         self.values(stream);
+        if reading.number == 0 {
+            self.samples(stream);
+        }
+    }
+
+    /// Compares the 16-bit samples of the last frame; a little room is lent beyond them, and one too little is refused.
+    fn samples(&mut self, stream: &[u8]) {
+        let (name, calls) = (self.name, self.calls);
+        let mut lent = [MARK; OUTPUT + 3];
+        let little = number_of(samples16(&self.output, &mut lent[..OUTPUT - 1]));
+        let left = lent == [MARK; OUTPUT + 3];
+        let number = number_of(samples16(&self.output, &mut lent));
+        let expected = self.heard.iter().map(|&sample| steps(sample)).chain([MARK; 3]);
+        let found = (0..).zip(lent.iter().zip(expected)).find(|(_, (a, b))| **a != *b);
+        self.tally
+            .same("samples16", (little, left, number, found), (9, true, 0, None), || {
+                Self::say(name, calls, stream)
+            });
     }
 
     /// A decode call with so much of memory and output that the port must refuse it: the Rust is not called.

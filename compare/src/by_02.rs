@@ -1,4 +1,5 @@
 //! A writer of wave files from 02's words (E1), over what the unchanged Rust plays. It shares no code with the port.
+#![cfg_attr(layer = "decode", allow(dead_code))]
 
 use crate::by_01::decode_by_01;
 use crate::riff;

@@ -280,20 +280,30 @@ fn too_long(tally: &mut Tally, frame: Vec<u8>) {
 
 /// Both calls that leave numbers beside their answer, past the wrapper, from a state that knows a header: the answers of
 /// decode and samplerate, each with what stands beside it.
-fn beside(stream: &[u8], room: usize, ring: usize) -> ((u32, u64, usize), (u32, u32)) {
+fn beside(stream: &[u8], room: usize, ring: u64) -> ((u32, u64, u64), (u32, u32)) {
     use crate::firmware::boundary::{tag_decode, tag_samplerate};
     let (mut places, mut counts, mut time) = ([0; PLACES], [0; COUNTS], [0.0]);
     places[place::RING] = ring;
     let (mut memory, mut output) = ([GUARD; MEMORY], [GUARD; OUTPUT]);
     let (mut rate, mut start, mut bits) = ([7], [-1.0], [7]);
-    let (data, length) = (stream.as_ptr(), stream.len());
+    let (data, length, room) = (stream.as_ptr(), stream.len() as u64, room as u64);
     let (ring, sound) = (memory.as_mut_ptr(), output.as_mut_ptr());
     let (places, counts, time) = (&mut places, &mut counts, &mut time);
     let rated = unsafe { tag_samplerate(places, counts, time, &mut rate) };
     let (start_at, bits_at) = (&mut start, &mut bits);
     let number = unsafe {
         tag_decode(
-            data, length, ring, room, sound, OUTPUT, places, counts, time, start_at, bits_at,
+            data,
+            length,
+            ring,
+            room,
+            sound,
+            OUTPUT as u64,
+            places,
+            counts,
+            time,
+            start_at,
+            bits_at,
         )
     };
     ((number, start[0].to_bits(), bits[0]), (rated, rate[0]))
@@ -335,7 +345,7 @@ pub fn compare(tally: &mut Tally, words: &[String]) {
     println!(
         "decode: whole decoders: every call's number, state, start time and bits used, memory and output, and what"
     );
-    println!("is lent beyond them");
+    println!("is lent beyond them; the 16-bit samples of each frame");
     let number = |at: usize| words.get(at).map(|word| word.parse::<u64>().expect("a number"));
     match words.first().map(String::as_str) {
         Some("published") => published(tally, "published", &words[1]),

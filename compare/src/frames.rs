@@ -1,5 +1,5 @@
 //! Seeded frames: a format, a payload and the bit at which it starts.
-#![cfg_attr(any(layer = "decode", layer = "wav"), allow(dead_code))]
+#![cfg_attr(any(layer = "decode", layer = "wav", layer = "cortex"), allow(dead_code))]
 
 use crate::seeded::Seeded;
 use crate::source::Format;

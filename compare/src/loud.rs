@@ -1,5 +1,6 @@
 //! Frames whose sound is chosen: codes of 16 bits in every subband that allows them, one scale factor for all, and a rule
 //! that gives the codes.
+#![cfg_attr(layer = "cortex", allow(dead_code))]
 
 use crate::seeded::Seeded;
 

@@ -9,9 +9,9 @@ mod bench;
 mod both;
 #[cfg(any(layer = "answers", layer = "header", layer = "decode", layer = "wav"))]
 mod by_01;
-#[cfg(layer = "wav")]
-mod by_02;
 #[cfg(any(layer = "decode", layer = "wav"))]
+mod by_02;
+#[cfg(any(layer = "decode", layer = "wav", layer = "cortex"))]
 mod classes;
 #[cfg(layer = "bench")]
 mod clock;
@@ -19,35 +19,45 @@ mod clock;
 mod codes;
 #[cfg(layer = "wav")]
 mod corners;
+#[cfg(layer = "cortex")]
+mod cortex;
 #[cfg(layer = "decode")]
 mod decode;
-#[cfg(any(layer = "answers", layer = "decode", layer = "bench", layer = "wav"))]
+#[cfg(any(
+    layer = "answers",
+    layer = "decode",
+    layer = "bench",
+    layer = "wav",
+    layer = "cortex"
+))]
 mod files;
-#[cfg(any(layer = "decode", layer = "bench"))]
+#[cfg(any(layer = "decode", layer = "bench", layer = "cortex"))]
 #[path = "../../firmware/tag.rs"]
 mod firmware;
-#[cfg(any(layer = "codes", layer = "sound", layer = "decode", layer = "wav"))]
+#[cfg(any(layer = "codes", layer = "sound", layer = "decode", layer = "wav", layer = "cortex"))]
 mod frames;
 #[cfg(layer = "bench")]
 mod grow;
 #[cfg(layer = "header")]
 mod header;
-#[cfg(layer = "wav")]
+#[cfg(any(layer = "wav", layer = "cortex"))]
 mod loud;
 #[cfg(layer = "reader")]
 mod reader;
-#[cfg(any(layer = "bench", layer = "wav"))]
+#[cfg(any(layer = "bench", layer = "decode", layer = "wav"))]
 mod riff;
-#[cfg(layer = "decode")]
+#[cfg(any(layer = "decode", layer = "cortex"))]
 mod saved;
 #[cfg(not(layer = "answers"))]
 mod seeded;
 #[cfg(layer = "sound")]
 mod sound;
 mod source;
-#[cfg(not(any(layer = "answers", layer = "decode", layer = "wav")))]
+#[cfg(layer = "wav")]
+mod summary;
+#[cfg(not(any(layer = "answers", layer = "decode", layer = "wav", layer = "cortex")))]
 mod tag;
-#[cfg(not(any(layer = "answers", layer = "bench")))]
+#[cfg(not(any(layer = "answers", layer = "bench", layer = "cortex")))]
 mod tally;
 #[cfg(layer = "wav")]
 mod wav;
@@ -87,7 +97,14 @@ fn main() {
     std::process::exit(tally.close());
 }
 
-#[cfg(not(any(layer = "answers", layer = "bench", layer = "wav")))]
+#[cfg(layer = "cortex")]
+fn main() {
+    let words: Vec<String> = std::env::args().skip(1).collect();
+    let count = words[1].parse().expect("a number of streams");
+    cortex::write(words[0].as_ref(), count).expect("files of jobs");
+}
+
+#[cfg(not(any(layer = "answers", layer = "bench", layer = "wav", layer = "cortex")))]
 fn main() {
     #[cfg(not(layer = "decode"))]
     let count: Option<usize> = std::env::args().nth(1).and_then(|word| word.parse().ok());

@@ -1,5 +1,6 @@
 //! Saved states: every field drawn within 01's ranges, the same with one field out of its range, and both with any bits
 //! where nothing is read.
+#![cfg_attr(layer = "cortex", allow(dead_code))]
 
 use crate::firmware::{count, place, Decoder, COUNTS, MEMORY, PLACES};
 use crate::seeded::Seeded;
@@ -8,17 +9,17 @@ use crate::seeded::Seeded;
 pub const FARTHEST: usize = 134_217_736;
 
 /// 01: frames times 1152, divided once by the rate.
-fn time(frames: u32, code: usize) -> f64 {
+fn time(frames: u32, code: u64) -> f64 {
     match code {
         3 => 0.0,
-        _ => (frames as u64 * 1152) as f64 / [44_100.0, 48_000.0, 32_000.0][code],
+        _ => (frames as u64 * 1152) as f64 / [44_100.0, 48_000.0, 32_000.0][code as usize],
     }
 }
 
 /// A state as it was saved when there were six places and two counts, widened with zeros.
 fn widened(old_places: [usize; 6], old_counts: [u32; 2], time: f64) -> Decoder {
     let (mut places, mut counts) = ([0; PLACES], [0; COUNTS]);
-    places[..6].copy_from_slice(&old_places);
+    places[..6].copy_from_slice(&old_places.map(|place| place as u64));
     counts[..2].copy_from_slice(&old_counts);
     Decoder {
         places,
@@ -36,7 +37,7 @@ pub fn fresh(choices: u32) -> Decoder {
 
 /// Any bits in what nothing reads: the last two places, the counts behind the choices, and the choices' bits above five, which stay as they are.
 pub fn littered(s: &mut Seeded, mut d: Decoder) -> Decoder {
-    let mut any = || s.below(1 << 32) << 32 | s.below(1 << 32);
+    let mut any = || (s.below(1 << 32) << 32 | s.below(1 << 32)) as u64;
     d.places[place::FRAME_END..].fill_with(&mut any);
     d.counts[count::CHOICES] |= (any() as u32) << 5;
     d.counts[count::CHOICES + 1..].fill_with(|| any() as u32);
@@ -80,7 +81,7 @@ pub fn in_range(s: &mut Seeded, length: usize) -> Decoder {
     let bound = if mode == 3 { 0 } else { s.below(33) };
     let pending = if known { pending } else { 0 };
     let places = [at, code, s.below(14), bound, pending, 64 * s.below(16)];
-    widened(places, [mode as u32, frames], time(frames, code))
+    widened(places, [mode as u32, frames], time(frames, code as u64))
 }
 
 /// A memory of numbers, of zeros of both signs, of sizes far apart, or of anything that an f32 can be.
@@ -104,7 +105,7 @@ type Spoil = (&'static str, fn(&mut Seeded, &mut Decoder));
 /// Each part of 01's paragraph "State in range", broken alone.
 pub const SPOILT: [Spoil; 15] = [
     ("position", |s, d| {
-        d.places[0] = FARTHEST + 1 + s.one_of(&[0, 1, 7, 1 << 32, 1 << 60])
+        d.places[0] = FARTHEST as u64 + 1 + s.one_of(&[0, 1, 7, 1 << 32, 1 << 60])
     }),
     ("frames", |s, d| {
         d.counts[1] = (d.places[0] / 16 + 1) as u32 + s.one_of(&[0, 1, 1 << 30]);
@@ -119,21 +120,21 @@ pub const SPOILT: [Spoil; 15] = [
         (d.counts[0], d.places[3]) = (0, 33 + s.one_of(&[0, 31, 1 << 32]))
     }),
     ("bound in mono", |s, d| {
-        (d.counts[0], d.places[3]) = (3, 1 + s.below(32))
+        (d.counts[0], d.places[3]) = (3, 1 + s.below(32) as u64)
     }),
-    ("ring position off a slot", |s, d| d.places[5] += 1 + s.below(63)),
+    ("ring position off a slot", |s, d| d.places[5] += 1 + s.below(63) as u64),
     ("ring position past its end", |s, d| {
         d.places[5] = 1_024 + s.one_of(&[0, 64, 1 << 32])
     }),
     ("pending size below", |s, d| {
-        (d.places[1], d.places[4]) = known(d, 1 + s.below(89))
+        (d.places[1], d.places[4]) = known(d, 1 + s.below(89) as u64)
     }),
     ("pending size above", |s, d| {
         (d.places[1], d.places[4]) = known(d, 1_726 + s.one_of(&[0, 1, 1 << 32]))
     }),
     ("pending without a header", |s, d| {
         no_header(d);
-        d.places[4] = 90 + s.below(1_636);
+        d.places[4] = 90 + s.below(1_636) as u64;
     }),
     ("frames without a header", |s, d| {
         no_header(d);
@@ -149,7 +150,7 @@ pub const SPOILT: [Spoil; 15] = [
 ];
 
 /// A state with a header, so that only the pending size is out of range.
-fn known(d: &mut Decoder, pending: usize) -> (usize, usize) {
+fn known(d: &mut Decoder, pending: u64) -> (u64, u64) {
     let code = d.places[1] % 3;
     d.time[0] = time(d.counts[1], code);
     (code, pending)

@@ -1,0 +1,160 @@
+/* The loop of firmware/README.md, as it stands there, run to each of its endings: endings CITRUS INCIDENT. steps/firmware
+ * takes loop.c from the page, and has the linker put `counted` in front of tag_decode. A loop that makes more calls than
+ * 01 allows is ended here. */
+#include "tag.h"
+#include <stdio.h>
+#include <stdlib.h>
+#include <string.h>
+
+static void to_the_converter(const int16_t *samples);
+#include "loop.c"
+
+#define BEHIND 8 /* values behind what a call may write */
+#define MARK 12345.0f
+
+static uint8_t citrus[1 << 16], incident[1 << 16], too_long[TAG_STREAM + 1];
+static uint64_t citrus_count, incident_count;
+static float memory[TAG_MEMORY], output[TAG_OUTPUT];
+static uint64_t calls, budget, frames, heard, others;
+static uint32_t to_come; /* calls that answer 13 and 14 in turn, numbers that are to come, before the library is asked */
+static unsigned compared, differ;
+
+/* The last line: how many comparisons, and how many differ. */
+static int closed(void) {
+    printf("%u %u\n", compared, differ);
+    return differ != 0;
+}
+
+static void same(const char *what, uint64_t ours, uint64_t expected) {
+    compared++;
+    differ += ours != expected;
+    if (ours != expected)
+        printf("DIFFERS %s: %llu, expected %llu\n", what, (unsigned long long)ours, (unsigned long long)expected);
+}
+
+/* A sum over all samples in their order: two that play the same have the same. */
+static void to_the_converter(const int16_t *samples) {
+    frames++;
+    for (int i = 0; i < TAG_OUTPUT; i++)
+        heard = heard * 31 + (uint16_t)samples[i];
+}
+
+uint32_t __real_tag_decode(const uint8_t *, uint64_t, float *, uint64_t, float *, uint64_t, uint64_t *, uint32_t *,
+                           double *, double *, uint64_t *);
+uint32_t __wrap_tag_decode(const uint8_t *stream, uint64_t stream_count, float *values, uint64_t values_count,
+                           float *frame, uint64_t frame_count, uint64_t *places, uint32_t *counts, double *time,
+                           double *start, uint64_t *bits) {
+    if (calls++ == budget) {
+        same("the loop goes on after this many calls", calls, budget);
+        exit(closed());
+    }
+    if (to_come > 0)
+        return 13 + --to_come % 2;
+    return __real_tag_decode(stream, stream_count, values, values_count, frame, frame_count, places, counts, time,
+                             start, bits);
+}
+
+/* n / 2 + 1 calls, and the one that answers 1 or 7. */
+static void begin(uint64_t stream_count) {
+    calls = frames = heard = others = 0;
+    budget = stream_count / 2 + 2;
+}
+
+/* What is lent wrong is told at once: at the opening, and by the first call of a decoder that was opened well. */
+static void lent_wrong(const char *what, const uint8_t *stream, uint64_t stream_count, uint64_t memory_count,
+                       uint64_t output_count, uint32_t number, uint64_t calls_after_opening) {
+    struct tag_state state;
+    begin(100);
+    memory[0] = MARK;
+    same(what, play_clip(stream, stream_count, memory, memory_count, output, output_count, &others), number);
+    same("calls after the opening", calls, calls_after_opening);
+    same("nothing was cleared", memory[0] == MARK, calls_after_opening == 0);
+    begin(100);
+    same("a good opening", tag_state_open(&state, citrus, citrus_count, memory, TAG_MEMORY, 0), TAG_SUCCEEDED);
+    same(what, play(&state, stream, stream_count, memory, memory_count, output, output_count, &others), number);
+    same("one call", calls, 1);
+}
+
+static void state_out_of_range(void) {
+    struct tag_state state;
+    begin(100);
+    tag_state_open(&state, citrus, citrus_count, memory, TAG_MEMORY, 0);
+    state.places[TAG_PLACE_RING] = 1;
+    same("10", play(&state, citrus, citrus_count, memory, TAG_MEMORY, output, TAG_OUTPUT, &others), TAG_REFUSED_BAD_STATE);
+    same("one call", calls, 1);
+}
+
+static void whole_clips(void) {
+    begin(incident_count);
+    same("the incident's end", play_clip(incident, incident_count, memory, TAG_MEMORY, output, TAG_OUTPUT, &others),
+         TAG_REFUSED_NO_HEADER_CAN_FOLLOW);
+    same("frames of the first clip", frames, 149);
+    same("frames of the other format", others, 154);
+    begin(citrus_count);
+    to_come = 4;
+    same("numbers to come", play_clip(citrus, citrus_count, memory, TAG_MEMORY, output, TAG_OUTPUT, &others),
+         TAG_REFUSED_NO_HEADER_CAN_FOLLOW);
+    same("frames behind them", frames, 149);
+    begin(0);
+    same("no byte", play_clip(citrus, 0, memory, TAG_MEMORY, output, TAG_OUTPUT, &others), TAG_REFUSED_NO_HEADER_CAN_FOLLOW);
+}
+
+/* A clip that is cut, so that it ends with this number, and grows; and the same clip in one piece. When it is cut its
+ * state is saved, and the one that was saved goes on. */
+static void grown_and_saved(uint64_t cut, uint32_t number) {
+    struct tag_state state, saved;
+    static float kept[TAG_MEMORY];
+    begin(citrus_count);
+    play_clip(citrus, citrus_count, memory, TAG_MEMORY, output, TAG_OUTPUT, &others);
+    uint64_t at_once = heard;
+    begin(2 * citrus_count);
+    tag_state_open(&state, citrus, cut, memory, TAG_MEMORY, 0);
+    same("the end of what is cut", play(&state, citrus, cut, memory, TAG_MEMORY, output, TAG_OUTPUT, &others), number);
+    memcpy(&saved, &state, sizeof saved);
+    memcpy(kept, memory, sizeof kept);
+    memset(&state, 0xFF, sizeof state);
+    memset(memory, 0xFF, sizeof memory);
+    same("the end of what has grown", play(&saved, citrus, citrus_count, kept, TAG_MEMORY, output, TAG_OUTPUT, &others),
+         TAG_REFUSED_NO_HEADER_CAN_FOLLOW);
+    same("the same sound", heard, at_once);
+}
+
+static void short_samples(void) {
+    static int16_t samples[TAG_OUTPUT + BEHIND], marks[TAG_OUTPUT + BEHIND];
+    memset(samples, 0x55, sizeof samples);
+    memset(marks, 0x55, sizeof marks);
+    same("output short", tag_samples16(output, TAG_OUTPUT - 1, samples, TAG_OUTPUT), TAG_REFUSED_LITTLE_ROOM);
+    same("samples short", tag_samples16(output, TAG_OUTPUT, samples, TAG_OUTPUT - 1), TAG_REFUSED_LITTLE_ROOM);
+    same("nothing written", (uint64_t)memcmp(samples, marks, sizeof samples), 0);
+    output[0] = 1.5f, output[1] = -1.5f, output[2] = 0.5f / 32768, output[3] = -0.5f / 32768;
+    same("samples", tag_samples16(output, TAG_OUTPUT, samples, TAG_OUTPUT + BEHIND), TAG_SUCCEEDED);
+    same("held above", samples[0] == 32767, 1);
+    same("held below", samples[1] == -32768, 1);
+    same("halves away from zero", samples[2] == 1 && samples[3] == -1, 1);
+    same("behind", (uint64_t)memcmp(samples + TAG_OUTPUT, marks, sizeof samples[0] * BEHIND), 0);
+}
+
+static uint64_t read_clip(const char *name, uint8_t *to, size_t room) {
+    FILE *file = fopen(name, "rb");
+    size_t count = file != NULL ? fread(to, 1, room, file) : 0;
+    if (file != NULL)
+        fclose(file);
+    return count;
+}
+
+int main(int count, char **words) {
+    if (count != 3)
+        return 2;
+    citrus_count = read_clip(words[1], citrus, sizeof citrus);
+    incident_count = read_clip(words[2], incident, sizeof incident);
+    lent_wrong("8", too_long, TAG_STREAM + 1, TAG_MEMORY, TAG_OUTPUT, TAG_REFUSED_LONG_STREAM, 0);
+    lent_wrong("9, memory", citrus, citrus_count, TAG_MEMORY - 1, TAG_OUTPUT, TAG_REFUSED_LITTLE_ROOM, 0);
+    lent_wrong("9, output", citrus, citrus_count, TAG_MEMORY, TAG_OUTPUT - 1, TAG_REFUSED_LITTLE_ROOM, 1);
+    state_out_of_range();
+    whole_clips();
+    /* The second header stands at byte 208: 3 bytes of it are fewer than 48 bits, and then a frame is cut. */
+    grown_and_saved(211, TAG_REFUSED_NO_HEADER_CAN_FOLLOW);
+    grown_and_saved(citrus_count / 2, TAG_REFUSED_CUT_OFF);
+    short_samples();
+    return closed();
+}
