@@ -1,0 +1,21 @@
+// node compare/browser/all.mjs BROWSER, or '' for none: see compare/page, which makes what is compared here.
+import { Count } from "./count.mjs";
+import * as stored from "./stored.mjs";
+import { drive } from "./drive.mjs";
+
+const [browser, folder] = process.argv.slice(2);
+if (browser === "exercises") {
+    stored.writeExercises(folder);
+    process.exit(0);
+}
+const count = new Count(), module = stored.compiled("target/page/tag.wasm");
+await count.part("node beside the Rust's stored answers", () => count.lines(stored.ours(module), stored.rust, "the lines of the stored streams"));
+await count.part("WAV files beside the proved program's", () => stored.compareWavs(count, module));
+await count.part("words beside the specs", () => stored.compareWords(count));
+await count.part("exercises beside the Rust's answers", () => stored.compareExercises(count, module));
+await count.part("ring-out", () => stored.compareRing(count, module));
+await count.part("parts of the sound", () => stored.compareCopies(count, module));
+await count.part("modules that are wrong on purpose", () => stored.compareWrong(count));
+if (browser) await drive(count, browser);
+console.log(`${count.compared} compared, ${count.differ} differ`);
+process.exit(count.differ ? 1 : 0);

@@ -1,0 +1,104 @@
+// The page's scripts in node: every stored stream beside the unchanged Rust's answers, WAV files beside the proved program's,
+// the page's words beside the specs', the exercises beside the Rust's answers, and modules that are wrong on purpose.
+import { execFileSync, spawnSync } from "node:child_process";
+import fs from "node:fs";
+import { joined, ringOut } from "../../page/src/ring.js";
+import { Decoder } from "../../page/src/tag.js";
+import { EXERCISES, made } from "../../page/src/exercises.js";
+import { Listing } from "../../page/src/listing.js";
+import { MODES, REASONS } from "../../page/src/words.js";
+import { answersOf } from "./answers.mjs";
+import { wavHeader } from "../../page/src/wav.js";
+
+const DATA = "crates/replay/data";
+// The lister takes 65,536 bytes and says `long` to more; the page takes 16,777,216.
+const LONG = "length-65537.mp2";
+const bytesOf = (file) => new Uint8Array(fs.readFileSync(file));
+export const compiled = (file) => new WebAssembly.Module(fs.readFileSync(file));
+export const names = fs.readdirSync(DATA).filter((name) => name !== LONG).sort();
+export const streams = names.map((name) => ({ name, stream: bytesOf(`${DATA}/${name}`) }));
+export const clips = { citrus: bytesOf("clips/citrus.mp2"), lavender: bytesOf("clips/lavender.mp2"), alike: bytesOf(`${DATA}/joined-alike.mp2`) };
+
+// The Rust's stored answers, without those of the stream that is too long for the lister.
+export const rust = fs.readFileSync("crates/replay/stdout", "utf8").replace(`${LONG}\nlong\n`, "");
+
+export const ours = (module) => streams.flatMap(({ name, stream }) => [name, ...answersOf({ Decoder, Listing }, module, stream)]).join("\n") + "\n";
+
+// The file that the proved program writes.
+export const wavOf = (stream) => spawnSync("./run", ["wav"], { input: stream, maxBuffer: 2 ** 28 }).stdout;
+
+function pageWav(module, stream) {
+    const listing = new Listing(new Decoder(module, stream), stream, 0);
+    while (listing.step());
+    const { frames, rate } = listing.format;
+    return Buffer.concat([Buffer.from(wavHeader(frames, frames ? rate : 44100)), Buffer.from(listing.frames(0, frames).buffer)]);
+}
+
+export function compareWavs(count, module) {
+    const all = [...streams, { name: "citrus", stream: clips.citrus }, { name: "lavender", stream: clips.lavender }];
+    for (const { name, stream } of all) count.holds(pageWav(module, stream).equals(wavOf(stream)), `the WAV file of ${name}`);
+}
+
+// What the specs say in words stands in the page as it is.
+export function compareWords(count) {
+    const specs = fs.readFileSync("crates/listing/specs/Words.antt", "utf8"), letters = (part) => [...part.matchAll(/letters "(.*?)"/g)].map((found) => found[1]);
+    const [reasons, modes] = ["reasonOf n =", "modeOf n ="].map((name) => letters(specs.split(name)[1].split("\n\n")[0]));
+    count.same(REASONS.slice(1).join(), reasons.slice(0, -1).join(), "the reasons");
+    count.same(MODES.join(), modes.join(), "the modes");
+}
+
+// The streams of the exercises beside the Rust's answers, which stand in exercises.txt.
+export const exerciseStreams = EXERCISES.map((exercise) => made(exercise, clips));
+export const exerciseAnswers = fs.readFileSync("compare/browser/exercises.txt", "utf8").split(/^\d+\.mp2\n/m).slice(1);
+
+export function writeExercises(folder) {
+    exerciseStreams.forEach((stream, i) => fs.writeFileSync(`${folder}/${String(i + 1).padStart(2, "0")}.mp2`, stream));
+}
+
+export function compareExercises(count, module) {
+    exerciseStreams.forEach((stream, i) => count.lines(answersOf({ Decoder, Listing }, module, stream).join("\n") + "\n", exerciseAnswers[i], `exercise ${i + 1}`));
+}
+
+// Demand 3: behind 4, 8 and 12 frames nothing differs from sample 481 on. Behind 11 last bits do.
+export function compareRing(count, module) {
+    const speech = clips.alike.slice(0, 4608), sweep = clips.alike.slice(4608);
+    for (let frames = 1; frames <= 12; frames++) {
+        const { fits, later, ringing } = ringOut(module, speech, sweep, frames), alike = frames % 4 === 0;
+        count.holds(fits && ringing.last <= 480 && later.compared === 22080, `ring-out behind ${frames} frames`);
+        count.holds(alike ? later.differ === 0 : later.differ > 0 && later.largest < 1e-6, `from sample 481 on behind ${frames} frames: ${later.differ} differ`);
+    }
+    count.same(ringOut(module, clips.citrus, clips.lavender, 4).fits, false, "the incident as a ring-out");
+}
+
+// Any part of the sound is the same whether it was reached from the beginning or from a copy of the decoder.
+export function compareCopies(count, module) {
+    const stream = joined(Array(70).fill(clips.citrus)), listing = new Listing(new Decoder(module, stream), stream, 0);
+    while (listing.step());
+    const whole = listing.frames(0, listing.format.frames);
+    for (const first of [0, 1, 15, 16, 17, 5000, listing.format.frames - 3]) {
+        const part = listing.frames(first, 3);
+        count.holds(part.every((sample, i) => sample === whole[first * 2304 + i]), `frames from ${first} on`);
+    }
+}
+
+// Modules with one small mistake each: the Rust's answers must tell every one.
+const WRONG = {
+    "a value of the window by its last bit": "0,/store float -5.000000e-01/s//store float 0xBFE0000020000000/",
+    "the factor of width 2 by its last bit": "s/0x3FE6A09E60000000/0x3FE6A09E80000000/",
+    "product and sum rounded once": "/= fmul float %r53, %r54/,/%r58 = fadd/s/%r58 = fadd float %r56, %r57/%x1 = fpext float %r53 to double\\n %x2 = fpext float %r54 to double\\n" +
+        " %x3 = fpext float %r56 to double\\n %x4 = fmul double %x1, %x2\\n %x5 = fadd double %x3, %x4\\n %r58 = fptrunc double %x5 to float/",
+    "a start time multiplied": "s/fdiv double/fmul double/",
+    "negative samples divided toward zero": "s/ashr i32 (%r[0-9]+), 12/sdiv i32 \\1, 4096/",
+    "half a step less when a sample is scaled": "s/add nsw i32 (%r[0-9]+), 2048/add nsw i32 \\1, 2047/",
+    "the ring turned by two slots": "s/add nuw i64 (%r[0-9]+), 960/add nuw i64 \\1, 896/",
+    "streams above 1,024 bytes refused": "s/icmp ult i64 16777216,/icmp ult i64 1024,/",
+};
+
+export function compareWrong(count) {
+    const file = "target/page/wrong.wasm", right = fs.readFileSync("target/page/tag.wasm");
+    for (const [words, edit] of Object.entries(WRONG)) {
+        execFileSync("page/build", ["wasm", file], { env: { ...process.env, EDIT: edit } });
+        count.holds(!fs.readFileSync(file).equals(right), `the mistake makes no other module: ${words}`);
+        count.holds(ours(compiled(file)) !== rust, `not told: ${words}`);
+    }
+}

@@ -1,0 +1,101 @@
+// The page: its tabs, its clips, and files that are opened or dropped.
+import { $, option, trouble } from "./dom.js";
+import { startWorker } from "./work.js";
+import { show, startListen, tooLong } from "./listen.js";
+import { startIncident } from "./incident.js";
+import { startRingOut } from "./ringout.js";
+import { startTryIt } from "./tryit.js";
+import { showReadings } from "./readings.js";
+import { joined } from "./ring.js";
+import { stop } from "./sound.js";
+import { STREAM } from "./tag.js";
+
+const VIEWS = ["listen", "incident", "ring-out", "try-it"];
+const streams = {}, sentences = {};
+let drawings = [], again = () => {};
+
+function view(name) {
+    stop();
+    for (const id of VIEWS) {
+        $(id).hidden = id !== name;
+        $(`tab-${id}`).setAttribute("aria-selected", id === name);
+        $(`tab-${id}`).tabIndex = id === name ? 0 : -1;
+    }
+    history.replaceState(null, "", `#${name}`);
+    drawings.forEach((draw) => draw());
+}
+
+// Arrow keys go from tab to tab, as a screen reader says they do.
+function tabKeys(event) {
+    const step = { ArrowRight: 1, ArrowLeft: -1 }[event.key], at = VIEWS.findIndex((id) => event.target.id === `tab-${id}`);
+    if (!step || at < 0) return;
+    const next = VIEWS[(at + step + VIEWS.length) % VIEWS.length];
+    view(next);
+    $(`tab-${next}`).focus();
+}
+
+// Shows a stream, with a sentence about it. `picked` is what stands in the list of clips.
+function open(name, stream, sentence = `Your own: ${name}.`, picked = "own") {
+    view("listen");
+    $("pick").value = picked;
+    $("shows").textContent = sentence;
+    again = () => show(name, stream).catch((problem) => trouble(`${name} cannot be shown: ${problem.message}.`));
+    return again();
+}
+
+const pick = (name) => open(name, streams[name], sentences[name], name);
+
+async function openFile(file) {
+    if (!file) return;
+    if (file.size > STREAM) return tooLong(file.name, file.size);
+    try {
+        await open(file.name, new Uint8Array(await file.arrayBuffer()));
+    } catch (problem) {
+        trouble(`${file.name} cannot be read: ${problem.message}.`);
+    }
+}
+
+function unpack() {
+    for (const { name, title, bytes, parts, sentence } of JSON.parse($("clips").textContent)) {
+        streams[name] = parts ? joined(parts.map((part) => streams[part])) : Uint8Array.from(atob(bytes), (letter) => letter.charCodeAt(0));
+        sentences[name] = sentence;
+        $("pick").append(option(name, title));
+    }
+    $("pick").append(option("own", "your own file …"));
+}
+
+function startOpening() {
+    let over = 0;
+    const mark = (change) => document.body.classList.toggle("drop", (over = Math.max(0, over + change)) > 0);
+    $("pick").onchange = () => ($("pick").value === "own" ? $("file").click() : pick($("pick").value));
+    $("file").onchange = () => openFile($("file").files[0]).then(() => ($("file").value = ""));
+    addEventListener("dragenter", () => mark(1));
+    addEventListener("dragleave", () => mark(-1));
+    addEventListener("dragover", (event) => event.preventDefault());
+    addEventListener("drop", (event) => {
+        event.preventDefault();
+        mark(-over);
+        openFile(event.dataTransfer.files[0]);
+    });
+}
+
+async function start() {
+    const asked = location.hash.slice(1), redraw = () => drawings.forEach((draw) => draw());
+    unpack();
+    await startWorker();
+    const ring = startRingOut(streams);
+    drawings = [startListen(), ring.draw];
+    startTryIt(streams, open);
+    showReadings(pick, () => again());
+    startOpening();
+    for (const id of VIEWS) $(`tab-${id}`).onclick = () => view(id);
+    document.querySelector("[role=tablist]").onkeydown = tabKeys;
+    addEventListener("resize", redraw);
+    matchMedia("(prefers-color-scheme: dark)").onchange = redraw;
+    await pick("incident");
+    await Promise.all([startIncident(streams), ring.count()]);
+    if (VIEWS.includes(asked)) view(asked);
+    document.documentElement.dataset.ready = "true";
+}
+
+start().catch((problem) => trouble(`This browser cannot run the decoder: ${problem.message}.`));

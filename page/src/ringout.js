@@ -1,0 +1,63 @@
+// "Ring-out": how long one clip is heard in the next, counted bit for bit.
+import { $, fill, make, options } from "./dom.js";
+import { ask } from "./work.js";
+import { drawRing } from "./draw.js";
+import { playButton, readySound, stop } from "./sound.js";
+import { counted, formatWords, grouped } from "./words.js";
+import { OUTPUT } from "./tag.js";
+
+let clips, ring = null;
+
+// What was counted, in words.
+function facts({ frames, ringing, later, formats }) {
+    const remainder = frames % 4, differ = make("span", { className: later.differ ? "off" : "ok" }, `${grouped(later.differ)} differ`);
+    return [
+        [`Samples 1 to 480, ${(480000 / formats.first.rate).toFixed(1)} milliseconds: ${grouped(ringing.compared)} values compared, ${grouped(ringing.differ)} differ.`],
+        [`From sample 481 on: ${grouped(later.compared)} values compared bit for bit, `, differ, later.differ ? `, by at most ${later.largest.toExponential(1)} of full scale.` : "."],
+        [`${counted(frames, "frame")} in front, divided by 4, leave ${remainder}. The second clip alone has 0 in front, and leaves 0. `, remainder
+            ? "The remainders are not the same, and so nothing is promised. The first clip is gone, but the sums are added in another order, and a last bit can be another. Take 4, 8 or 12 frames."
+            : "The remainders are the same, and so it is proved: from sample 481 on none can differ."],
+    ];
+}
+
+const refusal = ({ formats, refused }) => [[`First: ${formatWords(formats.first)}. Second: ${formatWords(formats.second)}.`],
+    [`${counted(refused, "frame")} of the second clip refused with 6. This is the incident. Choose two clips of one format to hear a ring-out.`]];
+
+function headline({ fits, ringing }) {
+    if (!fits) return "The second clip is refused: it has another format than the first.";
+    if (!ringing.differ) return "Nothing of the first clip is heard in the second: it ended in silence. Move the slider.";
+    return `The first clip rings on up to sample ${ringing.last}, with up to ${ringing.largest.toPrecision(2)} of full scale.`;
+}
+
+function draw() {
+    if (ring && !$("ring-out").hidden) drawRing(ring);
+}
+
+async function count() {
+    stop();
+    const [first, second] = ["first", "second"].map((id) => clips[$(id).value].stream);
+    ring = await ask("ring", { first, second, frames: Number($("frames").value) });
+    Object.assign($("frames"), { max: ring.total, value: ring.frames });
+    $("frames-words").textContent = `${ring.frames} of ${ring.total}`;
+    $("ring-words").textContent = headline(ring);
+    fill($("ring-facts"), ...(ring.fits ? facts(ring) : refusal(ring)).map((parts) => make("li", {}, ...parts)));
+    $("ring").setAttribute("aria-label", `First clip, then second; second alone; and the difference. ${headline(ring)}`);
+    $("play-knock").disabled = !ring.ringing?.differ;
+    draw();
+}
+
+export function startRingOut(streams) {
+    const alike = streams["joined-alike"], end = 12 * 384; // twelve frames of speech, then the sweep
+    clips = {
+        speech: { name: "speech, 128 kbps stereo", stream: alike.slice(0, end) }, sweep: { name: "a sweep, 128 kbps stereo", stream: alike.slice(end) },
+        citrus: { name: "citrus jar, 64 kbps mono", stream: streams.citrus }, lavender: { name: "lavender jar, 48 kbps mono", stream: streams.lavender },
+    };
+    for (const id of ["first", "second"]) fill($(id), ...options(clips));
+    $("second").value = "sweep";
+    $("first").onchange = () => (Object.assign($("frames"), { max: 9999, value: 9999 }), count());
+    $("second").onchange = $("frames").oninput = count;
+    playButton($("play-both"), () => ({ sound: readySound(ring.both, ring.formats.first.rate) }));
+    playButton($("play-alone"), () => ({ sound: readySound(ring.alone, ring.formats.second.rate) }));
+    playButton($("play-knock"), () => ({ sound: readySound(ring.difference.subarray(0, 4 * OUTPUT), ring.formats.second.rate) }));
+    return { draw, count };
+}
