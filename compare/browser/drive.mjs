@@ -1,1 +1,307 @@
-export async function drive() {}
+// The page in a browser, as a person uses it: files, buttons, sliders, keys. Every view's picture is kept.
+import fs from "node:fs";
+import path from "node:path";
+import * as stored from "./stored.mjs";
+import { compareContrast, compareKeys, compareNames, compareWidth } from "./looks.mjs";
+import { Page } from "./page.mjs";
+import { answersOf } from "./answers.mjs";
+import { sleep } from "./chromium.mjs";
+
+const VIEWS = ["listen", "incident", "ring-out", "try-it"];
+const MADE = path.resolve("target/page/made");
+const AWAKE = 300; // milliseconds that a page may be busy at most, on a machine that does other things too
+
+function made(name, bytes) {
+    fs.mkdirSync(MADE, { recursive: true });
+    fs.writeFileSync(path.join(MADE, name), bytes);
+    return path.join(MADE, name);
+}
+
+// The stored streams by the decoder of the page's own worker.
+async function compareStreams(count, page) {
+    const files = stored.streams.map(({ name, stream }) => [name, Buffer.from(stream).toString("base64")]);
+    const found = await page.run(`(async () => {
+        const bytes = (text) => Uint8Array.from(atob(text), (letter) => letter.charCodeAt(0)), files = ${JSON.stringify(files)};
+        const code = worker.textContent + ";self.onmessage = async ({ data }) => { const module = await WebAssembly.compile(data.decoder);" +
+            "self.postMessage(data.files.map(([name, stream]) => [name, ...(" + ${JSON.stringify(String(answersOf))} + ")({ ...in_tag, ...in_listing }, module, stream)].join('\\\\n')).join('\\\\n') + '\\\\n'); };";
+        const other = new Worker(URL.createObjectURL(new Blob([code], { type: "text/javascript" })));
+        other.postMessage({ decoder: bytes(decoder.textContent), files: files.map(([name, text]) => [name, bytes(text)]) });
+        return await new Promise((answer, fail) => (other.onmessage = ({ data }) => answer(data), other.onerror = ({ message }) => fail(new Error(message)))); })()`);
+    count.lines(found, stored.rust, "the lines of the stored streams, in the browser");
+}
+
+// Every stored stream opened as a file, its list and its WAV file saved.
+async function compareFiles(count, page) {
+    const rust = new Map(stored.rust.split(/^(?=.*\.mp2$)/m).map((part) => [part.split("\n")[0], part.split("\n").slice(1).join("\n").replace(/ time .*/g, "")]));
+    for (const { name, stream } of stored.streams) {
+        await page.give(`crates/replay/data/${name}`);
+        count.lines((await page.saved("#save-list", name.replace(".mp2", ".txt"))).toString(), rust.get(name), `${name}, its list as it was saved`);
+        if (!count.same(await page.run("document.getElementById('save-wav').disabled"), !/^frame/m.test(rust.get(name)), `${name}: whether there is sound to save`)) continue;
+        if (/^frame/m.test(rust.get(name))) count.holds((await page.saved("#save-wav", name.replace(".mp2", ".wav"))).equals(stored.wavOf(stream)), `${name}, its WAV file as it was saved`);
+    }
+}
+
+const VERDICTS = {
+    citrus: "149 frames, 3.89 s; ended with 1: no header can follow.",
+    lavender: "154 frames, 4.02 s; ended with 1: no header can follow.",
+    incident: "149 frames, 3.89 s; refused 2, once: no sync found; refused 6, 154 times: the header says 48 kbps, the clip began with 64; ended with 1: no header can follow.",
+    "joined-alike": "22 frames, 0.53 s; ended with 1: no header can follow.",
+    "joined-bit-rates": "12 frames, 0.29 s; refused 6, 6 times: the header says 96 kbps, the clip began with 128; ended with 1: no header can follow.",
+};
+
+// The clips that are built in: the verdict of each, by hand from the Rust's answers, and its picture.
+async function compareClips(count, page) {
+    for (const name of await page.run("[...pick.options].map(({ value }) => value).filter((value) => value !== 'own')")) {
+        await page.choose("pick", name);
+        await page.until(`verdict.getAttribute("aria-busy") === "false"`);
+        await page.keep(`clip-${name}`);
+        if (VERDICTS[name]) count.same(await page.text("line"), VERDICTS[name], `the verdict of ${name}`);
+        count.holds((await page.text("shows")).length > 20, `${name} has a sentence`);
+    }
+    count.same(await page.run("readings.hidden"), true, "no switch is shown that does nothing");
+}
+
+const isOn = (name) => `document.getElementById("${name}").textContent === "■ Stop"`;
+
+async function compareSound(count, page) {
+    await page.choose("pick", "citrus");
+    await page.until(`line.textContent.startsWith("149 frames, 3.89 s; ended")`);
+    await page.click("#play");
+    await page.until(`${isOn("play")} && parseFloat(clock.textContent) > 0.5`);
+    await page.keep("playing");
+    await page.click("#play");
+    count.same(await page.text("play"), "▶ Play", "the button after it was stopped");
+    await page.focus("place");
+    for (const key of ["End", "ArrowLeft", "ArrowLeft"]) await page.key(key);
+    count.same(await page.text("clock"), "3.81 s of 3.89 s", "the place by keys");
+    await page.click("#play");
+    await page.until(isOn("play"));
+    await page.until(`!(${isOn("play")})`);
+    count.holds(true, "the sound ends by itself");
+    await page.click("#wave", 0.75);
+    await page.until("!head.hidden && parseFloat(clock.textContent) > 2.9");
+    count.holds(parseFloat(await page.run("head.style.left")) >= 75, "a line goes along the wave");
+    await page.click("#play");
+}
+
+async function compareBytes(count, page) {
+    await page.choose("pick", "incident");
+    await page.until(`chosen.textContent.includes("refused 6 at 30995")`);
+    count.holds((await page.text("hex")).startsWith("from byte 30,992: FF FD 20 C4 65"), "the bytes of the first refusal");
+    const steps = [["#previous", "frame 148 at 30788"], ["#next", "refused 6 at 30995"], ["#next", "refused 6 at 31151"], ["#refusal", "refused 6 at 30995"]];
+    for (const [button, words] of steps) {
+        await page.click(button);
+        count.holds((await page.text("chosen")).includes(words), `${button} goes to ${words}`);
+    }
+    await page.click("#map", 0.25);
+    count.holds((await page.text("chosen")).includes("frame 66 at 13732"), `a click in the map: ${await page.text("chosen")}`);
+    await page.choose("byte", "212");
+    count.holds((await page.text("chosen")).includes("frame 1 at 212"), "a byte by its number");
+    await page.click("#calls details:nth-child(2) summary");
+    await page.until(`document.querySelectorAll("#calls details:nth-child(2) .call").length === 100`);
+    await page.click("#calls details:nth-child(2) > button:last-child");
+    count.same(await page.run(`document.querySelectorAll("#calls details:nth-child(2) .call").length`), 154, "all rows of a run");
+    await page.click("#calls details:nth-child(2) .call:nth-child(4)");
+    count.holds((await page.text("chosen")).includes("refused 6 at 31307"), "a row that is chosen");
+    await page.keep("bytes");
+}
+
+async function compareIncident(count, page) {
+    await page.view("incident");
+    await page.keep("incident");
+    const heard = (id) => page.run(`document.querySelector("#parts-${id} [aria-current]")?.textContent ?? ""`);
+    for (const [id, ms, words] of [["old", 5500, "At the lavender jar: “Citrus jar."], ["ours", 5200, "No other clip is started"], ["mended", 1000, "Lavender jar. Contains linalool"]]) {
+        await page.click(`#play-${id}`);
+        await page.until(`document.querySelector("#parts-${id} [aria-current]")`);
+        await sleep(ms);
+        count.holds((await heard(id)).includes(words), `what is heard of ${id}: ${await heard(id)}`);
+        await page.keep(`incident-${id}`);
+        await page.click(`#play-${id}`);
+        count.same(await heard(id), "", `${id} is stopped`);
+    }
+}
+
+// The slider by keys: behind 12 frames nothing differs from sample 481 on, behind 11 last bits do.
+async function compareRing(count, page) {
+    await page.view("ring-out");
+    const facts = async (words) => count.holds((await page.text("ring-facts")).includes(words), `ring-out says “${words}”: ${await page.text("ring-facts")}`);
+    await facts("22,080 values compared bit for bit, 0 differ.");
+    count.holds((await page.text("ring-words")).includes("up to sample 480"), "it rings on for 480 samples");
+    await page.keep("ring-out-12");
+    await page.focus("frames");
+    await page.key("ArrowLeft");
+    await page.until(`document.getElementById("frames-words").textContent === "11 of 12"`);
+    await facts("11 frames in front, divided by 4, leave 3.");
+    count.holds(!(await page.text("ring-facts")).includes(", 0 differ"), "behind 11 frames last bits differ");
+    await page.keep("ring-out-11");
+    for (const id of ["play-both", "play-alone", "play-knock"]) {
+        await page.click(`#${id}`);
+        await page.until(isOn(id));
+        await page.until(`!(${isOn(id)})`);
+        count.holds(true, `${id} plays and ends`);
+    }
+    await page.choose("first", "citrus");
+    await page.until(`document.getElementById("ring-words").textContent.startsWith("The second clip is refused")`);
+    await facts("refused with 6. This is the incident.");
+    await page.keep("ring-out-refused");
+}
+
+// Each exercise: the right guess and a wrong one. What is right is told by the Rust's answers.
+async function compareTries(count, page) {
+    await page.view("try-it");
+    for (const [i, answers] of stored.exerciseAnswers.entries()) {
+        const lines = answers.trim().split("\n"), byFrames = (await page.text("question")).startsWith("How many");
+        const right = byFrames ? lines.filter((line) => line.startsWith("frame")).length : Number(lines.find((line) => !line.startsWith("frame")).split(" ")[1]);
+        for (const guess of [right, right === 1 ? 2 : 1]) {
+            await page.click(`#guesses input[value="${guess}"]`);
+            await page.run("answer.replaceChildren()");
+            await page.click("#see");
+            await page.until("answer.textContent");
+            count.holds((await page.text("answer")).startsWith(`You said ${guess}. ${guess === right ? "So it is." : `It is ${right}.`}`), `exercise ${i + 1}, guess ${guess}: ${await page.text("answer")}`);
+        }
+        await page.keep(`exercise-${i + 1}`);
+        await page.click("#next-exercise");
+    }
+}
+
+// A stream of one's own: each thing that can be done, undone again, and opened.
+async function compareOwn(count, page) {
+    const length = async (bytes, words) => count.holds((await page.text("stream-words")).startsWith(bytes), `${words}: ${await page.text("stream-words")}`);
+    await page.choose("begin", "citrus");
+    await length("832 bytes: FF FD 40 C4", "the beginning");
+    for (const [edit, boxes, bytes] of [["flip", { where: "2", bit: "7" }, "832 bytes: FF FD 41"], ["cut", { where: "600" }, "600 bytes"], ["front", { what: "ones" }, "603 bytes: FF FF FF FF FD"], ["behind", { what: "lavender" }, "1,851 bytes"]]) {
+        await page.choose("edit", edit);
+        for (const [id, value] of Object.entries(boxes)) await page.choose(id, value);
+        await page.click("#add");
+        await length(bytes, edit);
+    }
+    await page.keep("own-stream");
+    for (const bytes of ["1,848 bytes", "600 bytes"]) {
+        await page.click("#edits li:nth-child(3) button");
+        await length(bytes, "undone");
+    }
+    await page.click("#open-it");
+    await page.until(`!listen.hidden && line.textContent.startsWith("2 frames")`);
+    count.same(await page.text("shows"), "Your own: your stream.", "it is opened in the first view");
+}
+
+// Files that are no clip: a sentence, and the page goes on.
+async function compareOthers(count, page) {
+    const text = (words) => Buffer.from(words, "latin1");
+    const files = {
+        "empty.mp2": [text(""), "The file is empty: it has no byte."],
+        "song.mp3": [Buffer.concat([text("ID3\x04\x00\x00\x00\x00\x00\x10"), Buffer.alloc(16)]), "This is an MP3 file with a title"],
+        "bare.mp3": [Buffer.concat([Buffer.from([0xff, 0xfb, 0x90, 0]), Buffer.alloc(413)]), "This looks like an MP3 file"],
+        "low.mp2": [Buffer.concat([Buffer.from([0xff, 0xf5, 0x84, 0xc4]), Buffer.alloc(300)]), "This looks like Layer II at a low sample rate"],
+        "sound.wav": [stored.wavOf(stored.clips.citrus.slice(0, 416)), "This is a WAV file: its sound is decoded already."],
+        "list.txt": [text("Contains linalool, geraniol and coumarin.\n"), "This is text."],
+        "picture.png": [Buffer.concat([text("\x89PNG\r\n\x1a\n"), Buffer.alloc(50)]), "This is a picture (PNG)."],
+        "one.mp2": [Buffer.from([255]), "No frame of Layer II is in it."],
+        "cut.mp2": [stored.clips.citrus.slice(0, 100), "A header was read, but the frame behind it is cut off (7)."],
+        "zeros.mp2": [Buffer.alloc(5000), "No frame of Layer II is in it."],
+    };
+    for (const [name, [bytes, words]] of Object.entries(files)) {
+        await page.give(made(name, bytes));
+        count.same(await page.text("judgement"), "✖ Nothing here can be played.", `${name}, the judgement`);
+        count.holds((await page.text("advice")).startsWith(words), `${name}: ${await page.text("advice")}`);
+        await page.keep(`no-clip-${name}`);
+    }
+    await page.give("clips/citrus.mp2");
+    count.same(await page.text("judgement"), "✔ This clip plays whole.", "a clip after all these");
+}
+
+async function compareDrop(count, page) {
+    await page.run(`(() => { const files = new DataTransfer(); files.items.add(new File([new Uint8Array([255, 253, 160, 0]), new Uint8Array(622)], "dropped.mp2"));
+        dispatchEvent(new DragEvent("dragenter")); window.marked = document.body.classList.contains("drop"); dispatchEvent(new DragEvent("drop", { dataTransfer: files, cancelable: true })); })()`);
+    await page.until(`shows.textContent === "Your own: dropped.mp2."`);
+    await page.until(`verdict.getAttribute("aria-busy") === "false"`);
+    count.same(await page.run("marked && !document.body.classList.contains('drop')"), true, "a file over the page is marked");
+    count.same(await page.text("line"), "1 frame, 0.03 s; refused 2, once: no sync found; ended with 1: no header can follow.", "a file that was dropped");
+}
+
+// The longest streams: the page stays awake, tells how far it is, and can be told to stop.
+async function compareLong(count, page) {
+    const ones = made("ones.mp2", Buffer.alloc(16777216, 255)), copies = Buffer.concat(Array(541).fill(stored.clips.citrus)), long = made("long.mp2", copies);
+    await page.give(made("too-long.mp2", Buffer.alloc(16777217)));
+    count.holds((await page.text("trouble")).includes("too-long.mp2 has 16,777,217 bytes. That is too long (8)"), `too long: ${await page.text("trouble")}`);
+    await page.watch();
+    await page.start(long);
+    await page.until("!working.hidden && progress.value > 0.05");
+    await page.keep("at-work");
+    await page.click("#cancel");
+    await page.until("!trouble.hidden && working.hidden");
+    count.same(await page.text("trouble"), "long.mp2 was not read to its end. The page still shows dropped.mp2.", "after it was cancelled");
+    await page.give(ones);
+    count.holds((await page.text("line")).startsWith("0 frames; refused 3, 8,388,606 times: the header says MPEG-1, Layer I"), `16 MiB of FF: ${await page.text("line")}`);
+    await page.keep("ones");
+    await page.give(long);
+    count.same(await page.text("line"), "80,609 frames, 2105.70 s; ended with 1: no header can follow.", "541 times the citrus clip");
+    count.holds((await page.longest()) < AWAKE, `the page slept for ${await page.longest()} ms`);
+    console.log(`longest streams: the page was busy for ${await page.longest()} ms at most`);
+    await page.watch();
+    const file = await page.saved("#save-wav", "long.wav"), citrus = stored.wavOf(stored.clips.citrus);
+    count.same(file.length, 44 + 80609 * 4608, "the length of a long WAV file");
+    count.same(file.readUInt32LE(40), 80609 * 4608, "its length as it says");
+    count.holds(file.subarray(44, citrus.length).equals(citrus.subarray(44)), "its first 149 frames");
+    count.holds((await page.longest()) < AWAKE, `the page slept for ${await page.longest()} ms while it saved`);
+}
+
+// For everybody: names, keys, contrast in light and dark, narrow screens.
+async function compareLooks(count, page) {
+    await page.choose("pick", "incident");
+    await page.until(`line.textContent.startsWith("149 frames, 3.89 s; refused 2")`);
+    await page.run("document.querySelectorAll('details').forEach((details) => (details.open = true)), 0");
+    for (const view of VIEWS) {
+        await page.view(view);
+        if (view === "try-it") await page.click("#see");
+        await compareNames(count, page, view);
+        await compareKeys(count, page, view);
+        for (const [wide, scheme] of [[1180, "light"], [1180, "dark"], [390, "light"], [320, "dark"]]) {
+            await page.size(wide, 900, scheme);
+            await sleep(150);
+            await compareContrast(count, page, `${view}, ${scheme}`);
+            await compareWidth(count, page, `${view}, ${wide}`);
+            await page.keep(`${view}-${wide}-${scheme}`);
+        }
+        await page.size(1180, 900);
+    }
+    await page.focus("tab-try-it");
+    for (const [key, view] of [["ArrowRight", "listen"], ["ArrowLeft", "try-it"], ["ArrowLeft", "ring-out"]]) {
+        await page.key(key);
+        count.same(await page.run(`document.activeElement.id`), `tab-${view}`, `${key} goes to the tab`);
+        count.same(await page.run(`document.getElementById("${view}").hidden`), false, `${key} shows its view`);
+    }
+}
+
+// The place for readings, in a copy of the page that has one. It has no effect, so both verdicts are the same.
+async function compareReadings(count, browser) {
+    const text = fs.readFileSync("page/listen.html", "utf8"), one = `{ bit: 0, name: "made up", sentence: "a reading for this test.", clip: "citrus" }`;
+    count.same(text.split("const READINGS = [];").length, 2, "the page has its list of readings, and it is empty");
+    const page = new Page(browser);
+    await page.open(made("readings.html", text.replace("const READINGS = [];", () => `const READINGS = [${one}];`)));
+    count.same(await page.run("readings.hidden"), false, "a reading has its switch");
+    await page.click("#readings button");
+    await page.until(`line.textContent.startsWith("149 frames, 3.89 s; ended")`);
+    await page.click("#reading-0");
+    await page.until("!beside.hidden && beside.textContent");
+    count.same(await page.text("beside"), `Read plainly: ${await page.text("line")}`, "two readings side by side");
+    await page.keep("readings");
+    await page.close();
+}
+
+export async function drive(count, browser) {
+    const page = new Page(browser), opened = path.resolve("page/listen.html");
+    try {
+        await page.open(opened);
+        console.log((await page.send("Browser.getVersion")).product);
+        await count.part("browser beside the Rust's stored answers", () => compareStreams(count, page));
+        const parts = { "built-in clips": compareClips, sound: compareSound, bytes: compareBytes, incident: compareIncident, "ring-out in the browser": compareRing, exercises: compareTries,
+            "a stream of one's own": compareOwn, "files that are no clip": compareOthers, "a dropped file": compareDrop, "the longest streams": compareLong, "for everybody": compareLooks, "files saved": compareFiles };
+        for (const [words, part] of Object.entries(parts)) await count.part(words, () => part(count, page));
+        for (const trouble of page.troubles()) count.holds(false, trouble);
+        count.holds(true, "no error, and nothing asked of the network");
+    } finally {
+        await page.close();
+    }
+    await count.part("the place for readings", () => compareReadings(count, browser));
+}

@@ -34,8 +34,8 @@ export async function startIncident({ incident, lavender }) {
     ]);
     offer("ours", rate, [
         citrus,
-        { samples: silence(100), kind: "refused", name: `▲ Refused 6, ${sixes} times.`, words: `At the lavender jar: silence. ${REASONS[6]}. No other clip is started. The keeper is told: this clip is to be made anew.` },
-        { samples: silence(40), kind: "end", name: "■ End 1.", words: `${REASONS[1]}. That is the end, and no sooner.` },
+        { samples: silence(100), kind: "refused", name: `▲ Refused 6, ${sixes} times.`, words: `At the lavender jar: silence. 6 says: ${REASONS[6]}. No other clip is started. The keeper is told: this clip is to be made anew.` },
+        { samples: silence(40), kind: "end", name: "■ End 1.", words: `1 says: ${REASONS[1]}. That is the end, and no sooner.` },
     ]);
     offer("mended", rate, [{ samples: mended, name: `● ${counted(whole, "frame")}, ${seconds(whole, rate)}.`, words: "At the lavender jar: “Lavender jar. Contains linalool, geraniol, coumarin.”" }]);
 }

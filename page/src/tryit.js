@@ -53,10 +53,14 @@ async function see() {
 export function startTryIt(streams, open) {
     const number = (id) => Math.max(0, Math.floor(Number($(id).value)));
     clips = streams;
-    fill($("exercise"), ...[...EXERCISES, OWN].map(({ task }, i) => option(i, `${i + 1}. ${task}`)));
+    fill($("exercise"), ...EXERCISES.map((_, i) => option(i, `${i + 1} of ${EXERCISES.length}`)), option(EXERCISES.length, "your own stream"));
     fill($("begin"), ...options(BEGINNINGS));
     fill($("edit"), ...options(EDITS));
     $("exercise").onchange = () => showPlan(EXERCISES[$("exercise").value] ?? { ...plan, task: OWN.task, asks: "", because: "" });
+    $("next-exercise").onclick = () => {
+        $("exercise").value = (Number($("exercise").value) + 1) % EXERCISES.length;
+        $("exercise").onchange();
+    };
     $("begin").onchange = () => own({ begin: $("begin").value, edits: [] });
     $("edit").onchange = showBoxes;
     $("add").onclick = () => own({ edits: [...(plan.edits ?? []), [$("edit").value, { where: number("where"), bit: number("bit"), what: $("what").value }]] });
