@@ -36,7 +36,7 @@ async function compareFiles(count, page) {
     for (const { name, stream } of stored.streams) {
         await page.give(`crates/replay/data/${name}`);
         count.lines((await page.saved("#save-list", name.replace(".mp2", ".txt"))).toString(), rust.get(name), `${name}, its list as it was saved`);
-        if (!count.same(await page.run("document.getElementById('save-wav').disabled"), !/^frame/m.test(rust.get(name)), `${name}: whether there is sound to save`)) continue;
+        if (!count.same(await page.run("sound.hidden"), !/^frame/m.test(rust.get(name)), `${name}: whether there is sound`)) continue;
         if (/^frame/m.test(rust.get(name))) count.holds((await page.saved("#save-wav", name.replace(".mp2", ".wav"))).equals(stored.wavOf(stream)), `${name}, its WAV file as it was saved`);
     }
 }
@@ -63,9 +63,24 @@ async function compareClips(count, page) {
 
 const isOn = (name) => `document.getElementById("${name}").textContent === "■ Stop"`;
 
+// What is given to the loudspeaker is the WAV file's samples, and no piece comes early or late.
+async function comparePlayed(count, page) {
+    await page.run(`window.given = []; window.begin = AudioBufferSourceNode.prototype.start; AudioBufferSourceNode.prototype.start = function (at) {
+        given.push({ at, rate: this.buffer.sampleRate, sides: [0, 1].map((side) => Array.from(this.buffer.getChannelData(side), (x) => x * 32768)) }); return begin.call(this, at); }; 0`);
+    await page.click("#play");
+    await page.until(isOn("play"));
+    await page.until(`!(${isOn("play")})`);
+    const given = await page.run("AudioBufferSourceNode.prototype.start = begin, given"), wav = stored.wavOf(stored.clips.citrus);
+    const samples = given.flatMap(({ sides: [left, right] }) => left.flatMap((value, i) => [value, right[i]]));
+    count.same(samples.length, (wav.length - 44) / 2, "how many samples are played");
+    count.holds(samples.every((sample, i) => sample === wav.readInt16LE(44 + 2 * i)), "the samples that are played");
+    given.slice(1).forEach(({ at }, i) => count.holds(Math.abs(at - given[i].at - given[i].sides[0].length / given[i].rate) < 1e-9, `piece ${i + 1} of the sound follows at once`));
+}
+
 async function compareSound(count, page) {
     await page.choose("pick", "citrus");
     await page.until(`line.textContent.startsWith("149 frames, 3.89 s; ended")`);
+    await comparePlayed(count, page);
     await page.click("#play");
     await page.until(`${isOn("play")} && parseFloat(clock.textContent) > 0.5`);
     await page.keep("playing");

@@ -36,7 +36,7 @@ function showLegend() {
 function callWords(at, framesBefore) {
     const number = calls.number[at];
     if (number === 0) return `plays at ${seconds(framesBefore, calls.format.rate)}; ${grouped(calls.bits[at])} bits from byte ${grouped(calls.data(at))} on`;
-    return number >= 3 && number <= 6 ? `${REASONS[number]}: ${why(clip, at)}` : REASONS[number];
+    return number === 6 ? `${REASONS[6]}: ${why(clip, at)}` : REASONS[number];
 }
 
 function more(words, next) {
@@ -80,7 +80,8 @@ function showRuns(first, framesBefore) {
 function hexWords(from, header) {
     const { stream } = clip, data = calls.isFrame(row) ? calls.data(row) : Infinity;
     const parts = [["b", from, header < 0 ? from : header + 4], ["span", header < 0 ? from : header + 4, data], ["em", data, calls.at(row)], ["span", Math.max(data, calls.at(row)), Infinity]];
-    const shown = parts.map(([name, first, end]) => make(name, {}, hexOf(stream.subarray(Math.min(first, from + HEX), Math.min(end, from + HEX))), " "));
+    const shown = parts.map(([name, first, end]) => [name, hexOf(stream.subarray(Math.min(first, from + HEX), Math.min(end, from + HEX)))])
+        .filter(([, hex]) => hex).flatMap(([name, hex]) => [make(name, {}, hex), " "]);
     return stream.length ? [`from byte ${grouped(from)}: `, ...shown, from + HEX < stream.length ? "…" : ""] : ["no bytes"];
 }
 
@@ -88,7 +89,7 @@ function choose(at) {
     row = at;
     const { stream } = clip, before = calls.framesBefore(row), header = calls.header(row);
     const from = header < 0 ? Math.max(0, Math.min(calls.begins(row), stream.length - 1)) : header;
-    const says = header < 0 ? "" : ` Header at byte ${grouped(header)}: ${headerWords(stream, header)}.`;
+    const says = header < 0 ? "" : ` Its header, at byte ${grouped(header)}, says ${headerWords(stream, header)}.`;
     fill($("chosen"), chip(calls.number[row]), " ", make("code", {}, calls.text(row, before)), `: ${callWords(row, before)}.${says}`);
     fill($("hex"), ...hexWords(from, header));
     $("byte").value = from;

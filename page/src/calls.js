@@ -20,8 +20,11 @@ export class Calls {
     isFrame(row) { return this.number[row] === 0; }
 
     // The byte where a call begins, and the one where the next goes on, rounded down as the lister rounds.
-    begins(row) { return row ? (this.position[row - 1] + 7) >>> 3 : 0; }
+    begins(row) { return row ? this.end(row - 1) : 0; }
     at(row) { return this.position[row] >>> 3; }
+
+    // Behind the last byte of which a call read anything.
+    end(row) { return (this.position[row] + 7) >>> 3; }
 
     // Where a frame's data begin: so many bits before the aligned end.
     data(row) { return this.at(row) - ((this.bits[row] + 7) >>> 3); }

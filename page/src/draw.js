@@ -1,5 +1,5 @@
 // The pictures: a wave, a map of bytes, and the joint of two clips. Their colours are the page's, in light and dark.
-import { $, colourOf, signOf } from "./dom.js";
+import { $, colourOf, make, signOf } from "./dom.js";
 import { counted, grouped } from "./words.js";
 import { KINDS } from "./listing.js";
 import { RINGS } from "./ring.js";
@@ -43,7 +43,6 @@ function drawChannel(pen, { values }, channel, wide, top, high) {
 export function drawWave({ wave, format: { frames } }, marks, frame) {
     const { pen, wide, high } = canvas("wave"), half = high / 2;
     box(pen, "back", 0, 0, wide, high);
-    if (!frames) return words(pen, "no sound", wide / 2, half, "soft", "center");
     if (frame >= 0) box(pen, "chosen", (frame / frames) * wide, 0, Math.max(2, wide / frames), high);
     ["left", "right"].forEach((name, channel) => {
         drawChannel(pen, wave, channel, wide, channel * half + 16, half - 20);
@@ -62,15 +61,21 @@ function kindColour(kind) {
     return colour(plain ?? `pale-${Math.min(8, kind - KINDS.behind)}`);
 }
 
-// The columns side by side. A few refusals are drawn a second time, so wide that they are seen.
+// The columns as a picture of one line, drawn as wide as the page is. Refusals, where they are few, are drawn once more, so
+// wide that they are seen.
 function drawColumns(pen, map, wide) {
-    const tints = {}, step = wide / map.length, refusals = map.reduce((sum, kind) => sum + (kind >= KINDS.refused), 0);
-    for (const least of refusals < wide / 4 ? [0, 2] : [0]) {
-        map.forEach((kind, i) => {
-            if (least && kind < KINDS.refused) return;
-            pen.fillStyle = tints[kind] ??= kindColour(kind);
-            pen.fillRect(i * step, 20, Math.max(least, step), 34);
-        });
+    const line = make("canvas", { width: map.length, height: 1 }), dot = line.getContext("2d"), tints = {}, refusals = [];
+    map.forEach((kind, i) => {
+        dot.fillStyle = tints[kind] ??= kindColour(kind);
+        dot.fillRect(i, 0, 1, 1);
+        if (kind >= KINDS.refused) refusals.push(i);
+    });
+    Object.assign(pen, { imageSmoothingEnabled: map.length > wide, imageSmoothingQuality: "high" });
+    pen.drawImage(line, 0, 20, wide, 34);
+    if (refusals.length > wide / 4) return;
+    for (const i of refusals) {
+        pen.fillStyle = tints[map[i]];
+        pen.fillRect((i / map.length) * wide, 20, Math.max(2, wide / map.length), 34);
     }
 }
 

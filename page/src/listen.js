@@ -47,22 +47,23 @@ function showVerdict() {
 
 function showSound() {
     const { format, wave, stream, marks } = clip, { frames, mode } = format;
-    for (const id of ["play", "place", "save-wav"]) $(id).disabled = !frames;
-    Object.assign($("place"), { max: Math.max(0, frames - 1), value: 0 });
+    $("sound").hidden = !frames;
+    if (!frames) return;
+    Object.assign($("place"), { max: frames - 1, value: 0 });
     tell(0);
-    $("wave-words").textContent = frames ? [
+    $("wave-words").textContent = [
         `${formatWords(format)}. ${counted(stream.length, "byte")}.`, mode === 3 && "Mono: both channels are the same.",
         marks.length && "▼ marks where calls were refused.", wave.values.some((value) => Math.abs(value) > 1) && "Red is louder than full scale, and is held there.",
         "Click in the wave to play from there.",
-    ].filter(Boolean).join(" ") : "";
+    ].filter(Boolean).join(" ");
 }
 
 function tell(frame) {
-    const { rate, frames } = clip.format, words = frames ? `${seconds(frame, rate)} of ${seconds(frames, rate)}` : "no sound";
+    const { rate, frames } = clip.format, words = `${seconds(frame, rate)} of ${seconds(frames, rate)}`;
     $("clock").textContent = words;
     $("place").setAttribute("aria-valuetext", words);
     $("head").hidden = !isPlaying($("play"));
-    $("head").style.left = `${(100 * frame) / Math.max(1, frames)}%`;
+    $("head").style.left = `${(100 * frame) / frames}%`;
 }
 
 // Where in the sound calls were refused: the frames before, and the number.
@@ -77,7 +78,7 @@ function marks({ calls }) {
 
 function draw() {
     if (!clip || $("listen").hidden) return;
-    drawWave(clip, clip.marks, clip.calls.isFrame(row) ? clip.calls.framesBefore(row) : -1);
+    if (clip.format.frames) drawWave(clip, clip.marks, clip.calls.isFrame(row) ? clip.calls.framesBefore(row) : -1);
     drawMap(clip, row);
 }
 

@@ -65,7 +65,7 @@ class ByteMap {
             bytes.headers += this.paint(header, calls.data(row), KINDS.header);
             bytes.sound += this.paint(calls.data(row), calls.at(row), KINDS.sound);
         } else if (header >= 0) {
-            bytes.refused += this.paint(header, header + 4, KINDS.refused + number);
+            bytes.refused += this.paint(header, calls.end(row), KINDS.refused + number);
         }
         if (number === 0 || number === 6) this.frame(header, frameBytes(fields(calls.stream, header)));
         if (number === 7) this.frame(header, length);

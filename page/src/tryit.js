@@ -4,7 +4,7 @@ import { listed } from "./listen.js";
 import { BEGINNINGS, EDITS, EXERCISES, made } from "./exercises.js";
 import { REASONS, counted, hexOf, verdict } from "./words.js";
 
-const OWN = { task: "Your own stream.", begin: "lavender" };
+const OWN = { task: "A stream of your own. Do something to it.", begin: "lavender" };
 const NUMBERS = [1, 2, 3, 4, 5, 6, 7].map((number) => [number, `${number}: ${REASONS[number]}`]);
 const FRAMES = [0, 1, 2, 3, 4, 5, 6, 7, 8].map((number) => [number, counted(number, "frame")]);
 let clips, plan = OWN;
@@ -46,7 +46,7 @@ async function see() {
     fill($("answer"),
         make("p", { className: guess === undefined ? "" : right ? "ok" : "off" }, said),
         make("p", {}, chip(number), ` ${REASONS[number]}, behind ${counted(row, "frame")}. ${plan.because ?? ""}`),
-        make("p", {}, `${verdict(clip).line}.`), make("pre", {}, [...lines, ...(calls.count > 12 ? [".."] : [])].join("\n")));
+        make("p", {}, [...verdict(clip).advice, `${verdict(clip).line}.`].join(" ")), make("pre", {}, [...lines, ...(calls.count > 12 ? [".."] : [])].join("\n")));
 }
 
 // `open` shows a stream in "Listen and see".

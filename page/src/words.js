@@ -49,9 +49,9 @@ const ADVICE = {
     5: "A header with a sample rate that is none stands in it (5).",
     6: "Part of it has another format than its beginning, and is not played (6). This clip is to be made anew.",
     7: "Its last frame is cut off, and is not played (7). The file is not whole: have it sent again.",
-    front: (bytes) => `In front of the sound stand ${counted(bytes, "byte")} that are no sound.`,
-    between: (bytes) => `Between its frames stand ${counted(bytes, "byte")} in no frame. A frame may be missing there.`,
-    behind: (bytes) => `Behind the last frame stand ${counted(bytes, "byte")} that are no sound.`,
+    front: (bytes) => `In front of its first frame ${counted(bytes, "byte")} were passed over.`,
+    between: (bytes) => `Between its frames ${counted(bytes, "byte")} were passed over. A frame may be missing there.`,
+    behind: (bytes) => `Behind its last frame ${counted(bytes, "byte")} were passed over.`,
 };
 
 // A clip in words: a judgement for its keeper, and one line with every number.
