@@ -42,10 +42,15 @@ function script(name) {
     return text.trim();
 }
 
-const clips = JSON.parse(fs.readFileSync(path.join(house, "page/clips.json"), "utf8")).map(({ from, ...clip }) =>
-    from ? { ...clip, bytes: fs.readFileSync(path.join(house, from)).toString("base64") } : clip);
-const parts = { STYLE: source("page.css").trim(), DECODER: decoder(), CLIPS: JSON.stringify(clips), WORKER: script("worker.js"), PAGE: script("main.js") };
-const page = source("page.html").replace(/\/\*(STYLE|DECODER|CLIPS|WORKER|PAGE)\*\//g, (_, name) => parts[name]);
+// Words in JSON, where no "<" may stand as it is: it could end the script that holds them.
+const data = (value) => JSON.stringify(value).replaceAll("<", "\\u003c");
+const read = (name) => JSON.parse(fs.readFileSync(path.join(house, "page", name), "utf8"));
+const clips = read("clips.json").map(({ from, ...clip }) => (from ? { ...clip, bytes: fs.readFileSync(path.join(house, from)).toString("base64") } : clip));
+const parts = {
+    STYLE: source("page.css").trim(), DECODER: decoder(), CLIPS: data(clips), EXERCISES: data(read("exercises.json")),
+    WORKER: script("worker.js"), PAGE: script("main.js"),
+};
+const page = source("page.html").replace(/\/\*([A-Z]+)\*\//g, (_, name) => parts[name] ?? refuse(`nothing stands for ${name}`));
 if (/\bsrc=|https?:\/\/|@import|url\(/.test(page)) refuse("the page asks for something from outside");
 fs.writeFileSync(out, page);
 console.log(`${path.relative(house, out)}: ${page.length} characters, the decoder's ${fs.statSync(wasm).size} bytes among them`);

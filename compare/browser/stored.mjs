@@ -4,7 +4,7 @@ import { execFileSync, spawnSync } from "node:child_process";
 import fs from "node:fs";
 import { joined, ringOut } from "../../page/src/ring.js";
 import { Decoder } from "../../page/src/tag.js";
-import { EXERCISES, made } from "../../page/src/exercises.js";
+import { made } from "../../page/src/exercises.js";
 import { Listing } from "../../page/src/listing.js";
 import { MODES, REASONS } from "../../page/src/words.js";
 import { answersOf } from "./answers.mjs";
@@ -48,7 +48,8 @@ export function compareWords(count) {
 }
 
 // The streams of the exercises beside the Rust's answers, which stand in exercises.txt.
-export const exerciseStreams = EXERCISES.map((exercise) => made(exercise, clips));
+const book = JSON.parse(fs.readFileSync("page/exercises.json", "utf8"));
+export const exerciseStreams = book.exercises.map((exercise) => made(exercise, book, clips));
 export const exerciseAnswers = fs.readFileSync("compare/browser/exercises.txt", "utf8").split(/^\d+\.mp2\n/m).slice(1);
 
 export function writeExercises(folder) {
@@ -68,6 +69,42 @@ export function compareRing(count, module) {
         count.holds(alike ? later.differ === 0 : later.differ > 0 && later.largest < 1e-6, `from sample 481 on behind ${frames} frames: ${later.differ} differ`);
     }
     count.same(ringOut(module, clips.citrus, clips.lavender, 4).fits, false, "the incident as a ring-out");
+}
+
+// Numbers by chance, the same on every machine: Marsaglia's xorshift of 32 bits.
+function chance(seed) {
+    let state = seed;
+    return (below) => {
+        state ^= state << 13;
+        state ^= state >>> 17;
+        state ^= state << 5;
+        return (state >>> 0) % below;
+    };
+}
+
+// A stored stream that was damaged: bits turned, bytes taken out, zeros or ones put in, another stream joined, cut off.
+function damaged(draw) {
+    const some = () => Buffer.from(streams[draw(streams.length)].stream.subarray(0, 6000));
+    let bytes = some();
+    for (let times = draw(8); times > 0; times--) {
+        const at = draw(bytes.length + 1), rest = bytes.subarray(at), before = bytes.subarray(0, at);
+        const ways = [
+            () => bytes.map((byte, i) => (i === at ? byte ^ (1 << draw(8)) : byte)), () => Buffer.concat([before, rest.subarray(draw(300))]),
+            () => Buffer.concat([before, Buffer.alloc(draw(60), draw(2) ? 255 : 0), rest]), () => Buffer.concat([before, some()]), () => before,
+        ];
+        bytes = ways[draw(ways.length)]();
+    }
+    return new Uint8Array(bytes);
+}
+
+// Damaged streams beside the proved program replay, which is compiled for x86-64.
+export function compareDamaged(count, module, many) {
+    const draw = chance(20261116), folder = "target/page/damaged", all = Array.from({ length: many }, (_, i) => ({ name: `${i}.mp2`, stream: damaged(draw) }));
+    fs.rmSync(folder, { recursive: true, force: true });
+    fs.mkdirSync(folder, { recursive: true });
+    for (const { name, stream } of all) fs.writeFileSync(`${folder}/${name}`, stream);
+    const proved = execFileSync("../../../run", ["replay", ...all.map(({ name }) => name)], { cwd: folder, maxBuffer: 2 ** 28 }).toString();
+    count.lines(all.flatMap(({ name, stream }) => [name, ...answersOf({ Decoder, Listing }, module, stream)]).join("\n") + "\n", proved, "the lines of the damaged streams");
 }
 
 // Any part of the sound is the same whether it was reached from the beginning or from a copy of the decoder.

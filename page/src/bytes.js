@@ -9,6 +9,7 @@ let clip, calls, row, tell;
 export function showBytes(next, told) {
     [clip, calls, tell] = [next, next.calls, told];
     const refusal = (number) => number > 1 && number < 7, first = calls.number.findIndex(refusal);
+    $("map").setAttribute("aria-label", `A map of ${counted(clip.stream.length, "byte")}. The list below says it in words.`);
     showLegend();
     fill($("calls"));
     showRuns(0, 0);
@@ -17,44 +18,48 @@ export function showBytes(next, told) {
     $("previous").onclick = () => choose(row - 1);
     $("next").onclick = () => choose(row + 1);
     $("refusal").onclick = () => choose(first);
-    $("refusal").disabled = first < 0;
-    choose(Math.max(0, first));
+    $("refusal").hidden = first < 0;
+    choose(Math.max(0, first), "off");
 }
 
 function showLegend() {
-    const { bytes, stream, tally } = clip, passed = stream.length - bytes.sound - bytes.headers - bytes.refused;
-    const kinds = [["sound", `sound, ${counted(bytes.sound, "byte")}`], ["header", `its headers, ${counted(bytes.headers, "byte")}`], ["passed", `passed over, ${counted(passed, "byte")}`]];
-    tally.forEach((_, number) => {
-        if (number === 2) kinds.push(["pale-2", "searched, no sync found (2)"]);
-        if (number > 2) kinds.push([`refused-${number}`, `a header refused with ${number}`], [`pale-${number}`, "what stands behind it"]);
-    });
-    fill($("legend"), ...kinds.map(([name, words]) => make("li", {}, make("i", { style: `background: var(--${name})` }), words)));
-    $("byte").max = Math.max(0, stream.length - 1);
+    const { sound, headers, refused, passed } = clip.bytes, kinds = [["sound", "sound", sound], ["header", "its headers", headers], ["passed", "passed over", passed[0]]];
+    refused.forEach((bytes, number) => kinds.push([`refused-${number}`, `headers refused with ${number}`, bytes]));
+    passed.forEach((bytes, number) => number && kinds.push([`pale-${number}`, number === 2 ? "searched, no sync found (2)" : `passed over behind ${number}`, bytes]));
+    fill($("legend"), ...kinds.filter(([, , bytes]) => bytes).map(([name, words, bytes]) =>
+        make("li", {}, make("i", { style: `background: var(--${name})` }), `${words}, ${counted(bytes, "byte")}`)));
+    $("byte").max = Math.max(0, clip.stream.length - 1);
 }
 
 // A call in words, as a keeper would say it.
 function callWords(at, framesBefore) {
     const number = calls.number[at];
-    if (number === 0) return `plays at ${seconds(framesBefore, calls.format.rate)}; ${grouped(calls.bits[at])} bits from byte ${grouped(calls.data(at))} on`;
-    return number === 6 ? `${REASONS[6]}: ${why(clip, at)}` : REASONS[number];
+    if (number === 0) return `plays at ${seconds(framesBefore, calls.format.rate)}; ${counted(calls.bits[at], "bit")} from byte ${grouped(calls.data(at))} on`;
+    return number >= 3 && number <= 6 ? `${REASONS[number]}: the header says ${why(clip, at)}` : REASONS[number];
 }
 
-function more(words, next) {
-    const button = make("button", {}, words);
-    button.onclick = () => (button.remove(), next());
-    return button;
+// A button that makes way for what comes next, and hands it the focus.
+function more(list, words, next) {
+    const button = make("button", {}, words), before = list.children.length;
+    button.onclick = () => {
+        button.remove();
+        next();
+        (list.children[before].querySelector("summary") ?? list.children[before]).focus();
+    };
+    list.append(button);
 }
 
 // The rows of a run, some at a time. `framesBefore` is what stands before the first of them.
 function showRows(list, from, count, framesBefore) {
     const now = Math.min(count, ROWS), frames = calls.isFrame(from);
     for (let i = 0; i < now; i++) {
-        const before = framesBefore + (frames ? i : 0), words = [make("code", {}, calls.text(from + i, before)), make("span", {}, callWords(from + i, before))];
-        const button = make("button", { className: "call", onclick: () => choose(from + i) }, ...words);
-        button.dataset.row = from + i;
+        const at = from + i, before = framesBefore + (frames ? i : 0), button = make("button", { className: "call", onclick: () => choose(at) });
+        button.append(make("code", {}, calls.text(at, before)), make("span", {}, callWords(at, before)));
+        button.dataset.row = at;
         list.append(button);
     }
-    if (now < count) list.append(more(`${grouped(count - now)} more`, () => showRows(list, from + now, count - now, framesBefore + (frames ? now : 0))));
+    const next = () => showRows(list, from + now, count - now, framesBefore + (frames ? now : 0));
+    if (now < count) more(list, `${grouped(count - now)} more`, next);
 }
 
 function runWords(first, count, framesBefore) {
@@ -67,7 +72,7 @@ function runWords(first, count, framesBefore) {
 function showRuns(first, framesBefore) {
     for (let runs = 0; first < calls.count; runs++) {
         const from = first, before = framesBefore, count = calls.run(first);
-        if (runs === RUNS) return $("calls").append(more("More calls", () => showRuns(from, before)));
+        if (runs === RUNS) return more($("calls"), "More calls", () => showRuns(from, before));
         const details = make("details", {}, make("summary", {}, chip(calls.number[first]), ` ${runWords(first, count, before)}`));
         details.ontoggle = () => details.open && details.children.length === 1 && showRows(details, from, count, before);
         $("calls").append(details);
@@ -76,27 +81,29 @@ function showRuns(first, framesBefore) {
     }
 }
 
-// The bytes from a call's header on, or from where it began: header, sound, and what is neither.
+// The bytes from a call's header on, or from where it began: header, check word, sound, and what is none of them.
 function hexWords(from, header) {
-    const { stream } = clip, data = calls.isFrame(row) ? calls.data(row) : Infinity;
-    const parts = [["b", from, header < 0 ? from : header + 4], ["span", header < 0 ? from : header + 4, data], ["em", data, calls.at(row)], ["span", Math.max(data, calls.at(row)), Infinity]];
-    const shown = parts.map(([name, first, end]) => [name, hexOf(stream.subarray(Math.min(first, from + HEX), Math.min(end, from + HEX)))])
-        .filter(([, hex]) => hex).flatMap(([name, hex]) => [make(name, {}, hex), " "]);
-    return stream.length ? [`from byte ${grouped(from)}: `, ...shown, from + HEX < stream.length ? "…" : ""] : ["no bytes"];
+    const { stream } = clip, frame = calls.isFrame(row), body = header < 0 ? from : header + 4, data = frame ? calls.data(row) : body, end = frame ? calls.end(row) : body;
+    const parts = [["b", "header", from, body], ["span", "check word", body, data], ["em", "sound", data, end], ["span", "neither", end, Infinity]];
+    const shown = parts.flatMap(([name, words, first, last]) => {
+        const bytes = stream.subarray(Math.min(first, from + HEX), Math.min(last, from + HEX));
+        return bytes.length ? [`${words} `, make(name, {}, hexOf(bytes)), " "] : [];
+    });
+    return stream.length ? [`From byte ${grouped(from)}: `, ...shown, from + HEX < stream.length ? "…" : ""] : ["No bytes."];
 }
 
-function choose(at) {
-    row = at;
+// Shows a call. It is told to a screen reader where the person asked for it.
+function choose(at, live = "polite") {
+    row = Math.max(0, Math.min(at, calls.count - 1));
     const { stream } = clip, before = calls.framesBefore(row), header = calls.header(row);
     const from = header < 0 ? Math.max(0, Math.min(calls.begins(row), stream.length - 1)) : header;
     const says = header < 0 ? "" : ` Its header, at byte ${grouped(header)}, says ${headerWords(stream, header)}.`;
+    $("chosen").ariaLive = live;
     fill($("chosen"), chip(calls.number[row]), " ", make("code", {}, calls.text(row, before)), `: ${callWords(row, before)}.${says}`);
     fill($("hex"), ...hexWords(from, header));
     $("byte").value = from;
     document.querySelector(".call[aria-current]")?.removeAttribute("aria-current");
     document.querySelector(`.call[data-row="${row}"]`)?.setAttribute("aria-current", "true");
-    $("previous").disabled = row === 0;
-    $("next").disabled = row === calls.count - 1;
     tell(row);
 }
 

@@ -21,9 +21,12 @@ export const options = (entries) => Object.entries(entries).map(([key, { name }]
 export const signOf = (number) => (number === 0 ? "●" : goesOn(number) ? "▲" : "■");
 export const colourOf = (number) => (number === 0 ? "sound" : number === 1 ? "end-1" : `refused-${Math.min(number, 8)}`);
 
+// A sign for the eye alone: a screen reader says the word behind it.
+export const sign = (text) => make("span", { ariaHidden: "true" }, `${text} `);
+
 export function chip(number) {
     const word = number === 0 ? "frame" : `${goesOn(number) ? "refused" : "end"} ${number}`;
-    return make("span", { className: "chip", title: REASONS[number], style: `background: var(--${colourOf(number)})` }, `${signOf(number)} ${word}`);
+    return make("span", { className: "chip", title: REASONS[number], style: `background: var(--${colourOf(number)})` }, sign(signOf(number)), word);
 }
 
 // Hands a file to the person.

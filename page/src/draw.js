@@ -46,7 +46,7 @@ export function drawWave({ wave, format: { frames } }, marks, frame) {
     if (frame >= 0) box(pen, "chosen", (frame / frames) * wide, 0, Math.max(2, wide / frames), high);
     ["left", "right"].forEach((name, channel) => {
         drawChannel(pen, wave, channel, wide, channel * half + 16, half - 20);
-        words(pen, name, 4, channel * half + 13);
+        words(pen, name, 18, channel * half + 13);
     });
     for (const [before, number] of marks) {
         const x = Math.min(wide - 7, Math.max(7, (before / frames) * wide));
@@ -72,7 +72,7 @@ function drawColumns(pen, map, wide) {
     });
     Object.assign(pen, { imageSmoothingEnabled: map.length > wide, imageSmoothingQuality: "high" });
     pen.drawImage(line, 0, 20, wide, 34);
-    if (refusals.length > wide / 4) return;
+    if (refusals.length > wide / 16) return;
     for (const i of refusals) {
         pen.fillStyle = tints[map[i]];
         pen.fillRect((i / map.length) * wide, 20, Math.max(2, wide / map.length), 34);
@@ -114,7 +114,8 @@ function drawCurve(pen, [name, tint, value], panel, scale, across) {
     const top = TOP + panel * (EACH + GAP), middle = top + EACH / 2;
     Object.assign(pen, { strokeStyle: colour("line"), lineWidth: 1 });
     pen.strokeRect(LEFT, top, across(AFTER) - LEFT, EACH);
-    [[`+${scale}`, top + 12], ["0", middle + 4], [`−${scale}`, top + EACH - 2]].forEach(([text, y]) => words(pen, text, LEFT - 4, y, "soft", "right"));
+    const marks = [[`+${scale}`, top + 12], ["0", middle + 4], [`−${scale}`, top + EACH - 2]];
+    marks.forEach(([text, y]) => words(pen, text, LEFT - 4, y, "soft", "right"));
     pen.beginPath();
     for (let i = -BEFORE; i < AFTER; i++) if (value(i) !== undefined) pen.lineTo(across(i), middle - ((value(i) / scale) * EACH) / 2);
     Object.assign(pen, { strokeStyle: colour(tint), lineWidth: 1.5 });
@@ -125,14 +126,15 @@ function drawCurve(pen, [name, tint, value], panel, scale, across) {
 export function drawRing({ fits, both, alone, difference, joint, later }) {
     const { pen, wide, high } = canvas("ring"), across = (i) => LEFT + ((i + BEFORE) / (BEFORE + AFTER)) * (wide - LEFT - 12);
     const left = (samples) => (i) => (i < 0 ? undefined : samples?.[2 * i]), places = Array.from({ length: BEFORE + AFTER }, (_, i) => i - BEFORE);
-    const curves = [["first, then second", "bad", (i) => both[2 * (joint + i)]], ["second alone", "accent", left(alone)], ["the knock", "ink", left(difference)]];
+    const joined = (i) => both[2 * (joint + i)];
+    const curves = [["first, then second", "bad", joined], ["second alone", "accent", left(alone)], ["the knock", "ink", left(difference)]];
     const loudest = Math.max(...curves.flatMap(([, , value]) => places.map((i) => Math.abs(value(i) ?? 0))));
     const scale = [0.01, 0.02, 0.05, 0.1, 0.2, 0.5, 1, 2, 4].find((most) => most >= loudest) ?? 8;
     if (fits) box(pen, "shade", across(0), TOP - 6, across(RINGS) - across(0), 3 * (EACH + GAP));
     curves.forEach((curve, panel) => drawCurve(pen, curve, panel, scale, across));
+    for (let i = -BEFORE; i <= AFTER; i += BEFORE) words(pen, String(i).replace("-", "−"), Math.min(wide - 16, across(i)), high - 8, "soft", "center");
+    if (wide < 560) return; // there is no room for words
     words(pen, "first ends here", across(0) - 6, 20, "soft", "right");
     if (fits) words(pen, "480 samples", (across(0) + across(RINGS)) / 2, 20, "soft", "center");
     if (fits) words(pen, later.differ ? "last bits differ" : "every sample the same", across(RINGS) + 6, 20);
-    for (let i = -BEFORE; i <= AFTER; i += BEFORE) words(pen, String(i), Math.min(wide - 16, across(i)), high - 22, "soft", "center");
-    words(pen, "samples on the left, from the second clip's first", wide / 2, high - 5, "soft", "center");
 }

@@ -1,14 +1,14 @@
 // "Listen and see": a clip, its verdict and its sound.
-import { $, fill, make, save, trouble } from "./dom.js";
+import { $, fill, make, save, sign, trouble } from "./dom.js";
 import { Calls } from "./calls.js";
 import { ask, askLong, cancel } from "./work.js";
 import { drawMap, drawWave } from "./draw.js";
 import { isPlaying, playButton, stop } from "./sound.js";
-import { counted, formatWords, grouped, seconds, verdict } from "./words.js";
+import { counted, formatWords, seconds, verdict } from "./words.js";
 import { chosenReading, showBeside } from "./readings.js";
 import { listText, showBytes } from "./bytes.js";
 
-let clip = null, row = 0;
+let clip = null, row = 0, turn = 0;
 
 // Lists a stream. Undefined where it was cancelled.
 export async function listed(key, name, stream, choices) {
@@ -16,18 +16,33 @@ export async function listed(key, name, stream, choices) {
     return found && { ...found, key, name, stream, choices, calls: new Calls(stream, found.columns, found.format) };
 }
 
-// The sound of a listed clip, in pieces that the worker makes.
-export const soundOf = ({ key, format: { rate, frames } }) => ({ rate, frames, one: 32768, piece: (first, count) => ask("frames", { key, first, count }) });
+const SIGNS = { whole: "✔", partly: "▲", none: "✖" };
 
+// The verdict's words, and whether the rest of the view belongs to them.
+function say(kind, judgement, advice, line, rest) {
+    $("judgement").className = `judgement ${kind}`;
+    fill($("judgement"), ...(SIGNS[kind] ? [sign(SIGNS[kind])] : []), judgement);
+    fill($("advice"), ...advice.map((words) => make("p", {}, words)));
+    $("line").textContent = line;
+    for (const id of ["sound", "bytes", "list"]) $(id).hidden = !rest;
+}
+
+// Shows a stream, unless another one was asked for in the meantime. Nothing of the last one stands under the new name.
 export async function show(name, stream) {
+    const mine = ++turn;
     stop();
     cancel();
     trouble("");
+    $("of").textContent = `${name}, ${counted(stream.length, "byte")}`;
     $("verdict").setAttribute("aria-busy", "true");
-    const next = await listed("listen", name, stream, chosenReading()).finally(() => $("verdict").setAttribute("aria-busy", "false"));
-    if (!next) return trouble(`${name} was not read to its end. The page still shows ${clip?.name ?? "nothing"}.`);
+    say("", "It is being read …", [], "", false);
+    const next = await listed("listen", name, stream, chosenReading());
+    if (mine !== turn) return;
+    $("verdict").setAttribute("aria-busy", "false");
+    if (!next) return say("none", "It was not read to its end.", ["You cancelled it. Choose a clip, or open a file."], "", false);
     clip = { ...next, marks: marks(next) };
-    showVerdict();
+    const { kind, judgement, advice, line } = verdict(clip);
+    say(kind, judgement, advice, `${line}.`, true);
     showSound();
     showBytes(clip, (chosen) => {
         row = chosen;
@@ -36,31 +51,25 @@ export async function show(name, stream) {
     await showBeside(clip, listed);
 }
 
-function showVerdict() {
-    const { kind, judgement, advice, line } = verdict(clip), signs = { whole: "✔", partly: "▲", none: "✖" };
-    Object.assign($("judgement"), { className: `judgement ${kind}`, textContent: `${signs[kind]} ${judgement}` });
-    fill($("advice"), ...advice.map((words) => make("p", {}, words)));
-    $("line").textContent = `${line}.`;
-    $("wave").setAttribute("aria-label", `The wave of both channels. ${line}.`);
-    $("map").setAttribute("aria-label", `The stream's bytes from first to last. ${line}.`);
-}
-
 function showSound() {
-    const { format, wave, stream, marks } = clip, { frames, mode } = format;
+    const { format, wave, marks } = clip, { frames, mode } = format;
     $("sound").hidden = !frames;
     if (!frames) return;
-    Object.assign($("place"), { max: frames - 1, value: 0 });
+    $("place").max = frames - 1;
     tell(0);
+    $("wave").setAttribute("aria-label", `The wave of both channels, ${seconds(frames, format.rate)}`);
     $("wave-words").textContent = [
-        `${formatWords(format)}. ${counted(stream.length, "byte")}.`, mode === 3 && "Mono: both channels are the same.",
+        `${formatWords(format)}.`, mode === 3 && "Mono: both channels are the same.",
         marks.length && "▼ marks where calls were refused.", wave.values.some((value) => Math.abs(value) > 1) && "Red is louder than full scale, and is held there.",
         "Click in the wave to play from there.",
     ].filter(Boolean).join(" ");
 }
 
+// Shows the place in the sound: in the slider, in seconds, and as a line in the wave.
 function tell(frame) {
     const { rate, frames } = clip.format, words = `${seconds(frame, rate)} of ${seconds(frames, rate)}`;
     $("clock").textContent = words;
+    $("place").value = frame;
     $("place").setAttribute("aria-valuetext", words);
     $("head").hidden = !isPlaying($("play"));
     $("head").style.left = `${(100 * frame) / frames}%`;
@@ -77,28 +86,34 @@ function marks({ calls }) {
 }
 
 function draw() {
-    if (!clip || $("listen").hidden) return;
+    if (!clip || $("bytes").hidden || $("listen").hidden) return;
     if (clip.format.frames) drawWave(clip, clip.marks, clip.calls.isFrame(row) ? clip.calls.framesBefore(row) : -1);
     drawMap(clip, row);
 }
 
 export function startListen() {
     const named = (ending) => clip.name.replace(/\.[^.]*$/, "") + ending, place = () => Number($("place").value);
-    playButton($("play"), () => ({ sound: soundOf(clip), from: place(), step: tell, ended: () => tell(place()) }));
-    $("place").oninput = () => tell(place());
-    $("wave").onclick = (event) => {
+    const piece = (first, count) => ask("frames", { key: "listen", first, count });
+    const playFrom = (frame) => {
         stop();
-        $("place").value = (event.offsetX / event.target.clientWidth) * clip.format.frames;
+        tell(frame);
         $("play").click();
     };
-    const failed = (problem) => trouble(`No file was saved: ${problem.message}.`);
-    $("save-wav").onclick = () => askLong("wav", { key: "listen" }).then((file) => file && save(file, named(".wav"))).catch(failed);
+    playButton($("play"), () => ({ sound: { ...clip.format, one: 32768, piece }, from: place(), step: tell, ended: (over) => tell(over ? 0 : place()) }));
+    $("place").oninput = () => (isPlaying($("play")) ? playFrom(place()) : tell(place()));
+    $("wave").onclick = (event) => playFrom(Math.floor((event.offsetX / event.target.clientWidth) * clip.format.frames));
+    const failed = (problem) => trouble(`No file was saved: ${problem?.message ?? "it was cancelled"}.`);
+    $("save-wav").onclick = () => askLong("wav", { key: "listen" }).then((file) => (file ? save(file, named(".wav")) : failed())).catch(failed);
     $("save-list").onclick = () => listText(clip).then((file) => save(file, named(".txt"))).catch(failed);
     $("cancel").onclick = cancel;
     return draw;
 }
 
+// A file above 16,777,216 bytes is not read.
 export function tooLong(name, length) {
+    turn++;
     stop();
-    trouble(`${name} has ${grouped(length)} bytes. That is too long (8): a stream has 16,777,216 bytes at most. It was not opened.`);
+    cancel();
+    $("of").textContent = `${name}, ${counted(length, "byte")}`;
+    say("none", "The file is too long (8).", ["A stream has 16,777,216 bytes at most. This one was not read."], "", false);
 }

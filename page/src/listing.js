@@ -41,7 +41,7 @@ class Outline {
 class ByteMap {
     constructor(length) {
         Object.assign(this, { length, columns: new Uint8Array(Math.min(COLUMNS, length)), refused: 0, frameEnd: 0 });
-        this.bytes = { sound: 0, headers: 0, refused: 0, front: 0, between: 0, behind: 0 };
+        this.bytes = { sound: 0, headers: 0, refused: [], passed: [], front: 0, between: 0, behind: 0 };
     }
 
     paint(first, end, kind) {
@@ -57,19 +57,24 @@ class ByteMap {
         this.frameEnd = Math.max(this.frameEnd, header + size);
     }
 
-    // What one call read. The bytes behind a refused header, up to the next one, are painted as that refusal's.
+    // Bytes that were passed over, behind a header refused with `number`; 0 where it was none.
+    pass(first, end, number) {
+        this.bytes.passed[number] = (this.bytes.passed[number] ?? 0) + this.paint(first, end, number && KINDS.behind + number);
+    }
+
+    // What one call read.
     call(calls, row) {
-        const number = calls.number[row], header = calls.header(row), { bytes, length } = this;
-        if (this.refused) this.paint(calls.begins(row), header < 0 ? length : header, KINDS.behind + this.refused);
+        const number = calls.number[row], header = calls.header(row), end = calls.end(row), { bytes, length } = this;
+        this.pass(calls.begins(row), header < 0 ? length : header, this.refused || (number === 2 ? 2 : 0));
         if (number === 0) {
             bytes.headers += this.paint(header, calls.data(row), KINDS.header);
-            bytes.sound += this.paint(calls.data(row), calls.at(row), KINDS.sound);
+            bytes.sound += this.paint(calls.data(row), end, KINDS.sound);
         } else if (header >= 0) {
-            bytes.refused += this.paint(header, calls.end(row), KINDS.refused + number);
+            bytes.refused[number] = (bytes.refused[number] ?? 0) + this.paint(header, end, KINDS.refused + number);
         }
         if (number === 0 || number === 6) this.frame(header, frameBytes(fields(calls.stream, header)));
         if (number === 7) this.frame(header, length);
-        if (number === 2 || number === 7) this.paint(header < 0 ? calls.begins(row) : header, length, KINDS.behind + number);
+        if (number === 7) this.pass(end, length, 7);
         if (!goesOn(number)) bytes.behind = Math.max(0, length - this.frameEnd);
         this.refused = number;
     }
@@ -97,10 +102,14 @@ export class Listing {
     note(number) {
         const { decoder, calls } = this, row = calls.count;
         calls.add(number, decoder.position, number === 0 ? decoder.bits : 0);
-        this.tally[number] ??= { count: 0, first: row };
-        this.tally[number].count++;
+        const says = this.says(calls.header(row)), tally = (this.tally[number] ??= { count: 0, first: row, says, alike: true });
+        tally.count++;
+        tally.alike &&= tally.says === says;
         this.map.call(calls, row);
     }
+
+    // Version, layer, bit rate, sample rate and mode of a header, in one number.
+    says(at) { return ((this.stream[at + 1] & 254) << 16) | ((this.stream[at + 2] & 252) << 8) | (this.stream[at + 3] >> 6); }
 
     // A copy of the decoder is kept for every `every` frames; where there are too many, for twice as many.
     sounded() {

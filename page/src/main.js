@@ -11,14 +11,14 @@ import { stop } from "./sound.js";
 import { STREAM } from "./tag.js";
 
 const VIEWS = ["listen", "incident", "ring-out", "try-it"];
-const streams = {}, sentences = {};
+const streams = {}, sentences = { own: "A stream of your own." };
 let drawings = [], again = () => {};
 
 function view(name) {
     stop();
     for (const id of VIEWS) {
         $(id).hidden = id !== name;
-        $(`tab-${id}`).setAttribute("aria-selected", id === name);
+        $(`tab-${id}`).ariaSelected = id === name;
         $(`tab-${id}`).tabIndex = id === name ? 0 : -1;
     }
     history.replaceState(null, "", `#${name}`);
@@ -34,25 +34,29 @@ function tabKeys(event) {
     $(`tab-${next}`).focus();
 }
 
-// Shows a stream, with a sentence about it. `picked` is what stands in the list of clips.
-function open(name, stream, sentence = `Your own: ${name}.`, picked = "own") {
+// Shows a stream by its key in the list of clips.
+function open(key, name = key) {
     view("listen");
-    $("pick").value = picked;
-    $("shows").textContent = sentence;
-    again = () => show(name, stream).catch((problem) => trouble(`${name} cannot be shown: ${problem.message}.`));
+    $("pick").value = key;
+    $("shows").textContent = sentences[key];
+    again = () => show(name, streams[key]).catch((problem) => trouble(`${name} cannot be shown: ${problem.message}.`));
     return again();
 }
 
-const pick = (name) => open(name, streams[name], sentences[name], name);
+// A stream of the person's own stands in the list from then on.
+function openOwn(name, stream) {
+    streams.own = stream;
+    Object.assign($("own"), { hidden: false, textContent: `your own: ${name}` });
+    $("own").dataset.name = name;
+    return open("own", name).then(() => $("judgement").focus());
+}
 
 async function openFile(file) {
     if (!file) return;
+    view("listen");
     if (file.size > STREAM) return tooLong(file.name, file.size);
-    try {
-        await open(file.name, new Uint8Array(await file.arrayBuffer()));
-    } catch (problem) {
-        trouble(`${file.name} cannot be read: ${problem.message}.`);
-    }
+    const stream = await file.arrayBuffer().catch((problem) => trouble(`${file.name} cannot be read: ${problem.message}. Is it a folder?`));
+    if (stream) await openOwn(file.name, new Uint8Array(stream));
 }
 
 function unpack() {
@@ -61,13 +65,13 @@ function unpack() {
         sentences[name] = sentence;
         $("pick").append(option(name, title));
     }
-    $("pick").append(option("own", "your own file …"));
+    $("pick").append(Object.assign(option("own", ""), { id: "own", hidden: true }));
 }
 
 function startOpening() {
     let over = 0;
     const mark = (change) => document.body.classList.toggle("drop", (over = Math.max(0, over + change)) > 0);
-    $("pick").onchange = () => ($("pick").value === "own" ? $("file").click() : pick($("pick").value));
+    $("pick").onchange = () => open($("pick").value, $("pick").selectedOptions[0].dataset.name);
     $("file").onchange = () => openFile($("file").files[0]).then(() => ($("file").value = ""));
     addEventListener("dragenter", () => mark(1));
     addEventListener("dragleave", () => mark(-1));
@@ -85,14 +89,14 @@ async function start() {
     await startWorker();
     const ring = startRingOut(streams);
     drawings = [startListen(), ring.draw];
-    startTryIt(streams, open);
-    showReadings(pick, () => again());
+    startTryIt(streams, openOwn);
+    showReadings(open, () => again());
     startOpening();
     for (const id of VIEWS) $(`tab-${id}`).onclick = () => view(id);
     document.querySelector("[role=tablist]").onkeydown = tabKeys;
     addEventListener("resize", redraw);
     matchMedia("(prefers-color-scheme: dark)").onchange = redraw;
-    await pick("incident");
+    await open("incident");
     await Promise.all([startIncident(streams), ring.count()]);
     if (VIEWS.includes(asked)) view(asked);
     document.documentElement.dataset.ready = "true";

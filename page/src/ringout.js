@@ -5,23 +5,30 @@ import { drawRing } from "./draw.js";
 import { playButton, readySound, stop } from "./sound.js";
 import { counted, formatWords, grouped } from "./words.js";
 import { OUTPUT } from "./tag.js";
+import { RINGS } from "./ring.js";
 
-let clips, ring = null;
+let clips, ring = null, turn = 0;
 
 // What was counted, in words.
 function facts({ frames, ringing, later, formats }) {
-    const remainder = frames % 4, differ = make("span", { className: later.differ ? "off" : "ok" }, `${grouped(later.differ)} differ`);
+    const remainder = frames % 4, milliseconds = ((1000 * RINGS) / formats.first.rate).toFixed(1);
+    const differ = make("span", { className: later.differ ? "warn" : "ok" }, `${grouped(later.differ)} differ`);
     return [
-        [`Samples 1 to 480, ${(480000 / formats.first.rate).toFixed(1)} milliseconds: ${grouped(ringing.compared)} values compared, ${grouped(ringing.differ)} differ.`],
-        [`From sample 481 on: ${grouped(later.compared)} values compared bit for bit, `, differ, later.differ ? `, by at most ${later.largest.toExponential(1)} of full scale.` : "."],
-        [`${counted(frames, "frame")} in front, divided by 4, leave ${remainder}. The second clip alone has 0 in front, and leaves 0. `, remainder
-            ? "The remainders are not the same, and so nothing is promised. The first clip is gone, but the sums are added in another order, and a last bit can be another. Take 4, 8 or 12 frames."
+        [`Samples 1 to 480, ${milliseconds} milliseconds: ${grouped(ringing.compared)} values compared, ${grouped(ringing.differ)} differ.`],
+        [`From sample 481 on: ${grouped(later.compared)} values compared bit for bit, `, differ,
+            later.differ ? `, by at most ${later.largest.toFixed(8)} of full scale.` : "."],
+        [`${counted(frames, "frame")} in front, divided by 4, leave ${remainder}. The second clip alone has 0 in front, and leaves 0. `],
+        [remainder
+            ? "The remainders are not the same, and so equal bits are not promised. The first clip is gone all the same. The sums are added in another "
+                + "order, and a last bit can differ. Take a count that 4 divides."
             : "The remainders are the same, and so it is proved: from sample 481 on none can differ."],
     ];
 }
 
-const refusal = ({ formats, refused }) => [[`First: ${formatWords(formats.first)}. Second: ${formatWords(formats.second)}.`],
-    [`${counted(refused, "frame")} of the second clip refused with 6. This is the incident. Choose two clips of one format to hear a ring-out.`]];
+const refusal = ({ formats, refused }) => [
+    [`First: ${formatWords(formats.first)}. Second: ${formatWords(formats.second)}.`],
+    [`${counted(refused, "frame")} of the second clip refused with 6. This is the incident. Choose two clips of one format to hear a ring-out.`],
+];
 
 function headline({ fits, ringing }) {
     if (!fits) return "The second clip is refused: it has another format than the first.";
@@ -33,15 +40,18 @@ function draw() {
     if (ring && !$("ring-out").hidden) drawRing(ring);
 }
 
+// Counts, unless the slider was moved on in the meantime.
 async function count() {
+    const mine = ++turn, [first, second] = ["first", "second"].map((id) => clips[$(id).value].stream);
     stop();
-    const [first, second] = ["first", "second"].map((id) => clips[$(id).value].stream);
-    ring = await ask("ring", { first, second, frames: Number($("frames").value) });
-    Object.assign($("frames"), { max: ring.total, value: ring.frames });
+    const found = await ask("ring", { first, second, frames: Number($("frames").value) });
+    if (mine !== turn) return;
+    ring = found;
+    Object.assign($("frames"), { max: ring.total, value: ring.frames, ariaValueText: `${ring.frames} of ${ring.total}` });
     $("frames-words").textContent = `${ring.frames} of ${ring.total}`;
     $("ring-words").textContent = headline(ring);
     fill($("ring-facts"), ...(ring.fits ? facts(ring) : refusal(ring)).map((parts) => make("li", {}, ...parts)));
-    $("ring").setAttribute("aria-label", `First clip, then second; second alone; and the difference. ${headline(ring)}`);
+    $("ring-caption").textContent = `Left channel. 0 is the second clip's first sample.${ring.fits ? " Shaded are its first 480 samples." : ""}`;
     $("play-knock").disabled = !ring.ringing?.differ;
     draw();
 }
@@ -49,8 +59,10 @@ async function count() {
 export function startRingOut(streams) {
     const alike = streams["joined-alike"], end = 12 * 384; // twelve frames of speech, then the sweep
     clips = {
-        speech: { name: "speech, 128 kbps stereo", stream: alike.slice(0, end) }, sweep: { name: "a sweep, 128 kbps stereo", stream: alike.slice(end) },
-        citrus: { name: "citrus jar, 64 kbps mono", stream: streams.citrus }, lavender: { name: "lavender jar, 48 kbps mono", stream: streams.lavender },
+        speech: { name: "speech, 128 kbps stereo", stream: alike.slice(0, end) },
+        sweep: { name: "a sweep, 128 kbps stereo", stream: alike.slice(end) },
+        citrus: { name: "the citrus clip, 64 kbps mono", stream: streams.citrus },
+        lavender: { name: "the lavender clip, 48 kbps mono", stream: streams.lavender },
     };
     for (const id of ["first", "second"]) fill($(id), ...options(clips));
     $("second").value = "sweep";

@@ -11,12 +11,13 @@ export const readySound = (samples, rate, one = 1) => ({
     rate, one, frames: samples.length / OUTPUT, piece: async (first, count) => samples.subarray(first * OUTPUT, (first + count) * OUTPUT),
 });
 
-export function stop() {
+// `over` is whether the sound has come to its end.
+export function stop(over = false) {
     if (!playing) return;
     const { sources, ended } = playing;
     playing = null;
     for (const source of sources) source.stop();
-    ended();
+    ended(over);
 }
 
 export const isPlaying = (owner) => playing?.owner === owner;
@@ -62,7 +63,7 @@ function schedule(me, samples, { rate, one }, at, last) {
     me.sources.add(source);
     source.onended = () => {
         me.sources.delete(source);
-        if (last && playing === me) stop();
+        if (last && playing === me) stop(true);
     };
     source.start(at);
 }
@@ -70,13 +71,22 @@ function schedule(me, samples, { rate, one }, at, last) {
 // A button that plays and stops. `start` gives the sound, where it begins, and what is to be told.
 export function playButton(button, start) {
     const name = button.textContent;
+    const shown = (on) => {
+        button.textContent = on ? "Stop" : name;
+        button.classList.toggle("on", on);
+    };
+    button.classList.add("play");
     button.onclick = () => {
         if (isPlaying(button)) return stop();
         const { sound, from = 0, step = () => {}, ended = () => {} } = start();
-        play(button, sound, from, step, () => {
-            button.textContent = name;
-            ended();
-        });
-        button.textContent = "■ Stop";
+        try {
+            play(button, sound, from, step, (over) => {
+                shown(false);
+                ended(over);
+            });
+            shown(true);
+        } catch (problem) {
+            trouble(`This browser plays no sound: ${problem.message}.`);
+        }
     };
 }

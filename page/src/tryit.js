@@ -1,71 +1,101 @@
 // "Try it": a stream, what is done to it, a guess, and the decoder's answer.
 import { $, chip, fill, make, option, options } from "./dom.js";
 import { listed } from "./listen.js";
-import { BEGINNINGS, EDITS, EXERCISES, made } from "./exercises.js";
-import { REASONS, counted, hexOf, verdict } from "./words.js";
+import { EDITS, editWords, made, steps } from "./exercises.js";
+import { REASONS, counted, grouped, hexOf, verdict } from "./words.js";
 
-const OWN = { task: "A stream of your own. Do something to it.", begin: "lavender" };
-const NUMBERS = [1, 2, 3, 4, 5, 6, 7].map((number) => [number, `${number}: ${REASONS[number]}`]);
-const FRAMES = [0, 1, 2, 3, 4, 5, 6, 7, 8].map((number) => [number, counted(number, "frame")]);
-let clips, plan = OWN;
+const OWN = "A stream of your own. Do something to it.";
+const CALLS = 12, HEX = 40; // shown at most
+const book = JSON.parse($("exercises").textContent), exercises = book.exercises;
+let clips, plan;
+
+// The answers to choose from.
+function guesses(frames) {
+    const words = frames ? Array.from({ length: 9 }, (_, number) => counted(number, "frame")) : REASONS.map((reason, number) => number && `${number}: ${reason}`);
+    return words.flatMap((text, value) => text ? [make("label", {}, make("input", { type: "radio", name: "guess", value }), make("span", {}, text))] : []);
+}
+
+// The stream's first bytes, or those around the bit that was flipped last.
+function hexWords(stream) {
+    const last = plan.edits?.at(-1), at = last?.edit === "flip" ? last.where : -1, from = Math.max(0, at - 8), part = (first, end) => hexOf(stream.subarray(first, end));
+    const bytes = at < 0 ? [part(0, HEX)] : [part(from, at), " ", make("b", {}, part(at, at + 1)), " ", part(at + 1, from + HEX)];
+    return [`${counted(stream.length, "byte")}${stream.length ? `, from byte ${grouped(from)}: ` : "."}`, ...bytes, from + HEX < stream.length ? " …" : ""];
+}
 
 // Shows the stream as it is planned, and forgets the last answer.
 function showPlan(next) {
     plan = next;
-    const edits = plan.edits ?? [], stream = made(plan, clips), frames = plan.asks === "frames";
+    const edits = plan.edits ?? [], streams = steps(plan, book, clips), frames = plan.asks === "frames";
     $("task").textContent = plan.task;
     $("begin").value = plan.begin;
-    fill($("edits"), ...edits.map(([name, words], i) => {
-        const undo = make("button", { onclick: () => own({ edits: edits.filter((_, at) => at !== i) }) }, "Undo");
-        return make("li", {}, `${EDITS[name].words(words)} `, undo);
+    fill($("edits"), ...edits.map((words, at) => {
+        const text = editWords(words, streams[at], book), undo = () => (own({ edits: edits.filter((_, i) => i !== at) }), $("add").focus());
+        return make("li", {}, `${text} `, make("button", { onclick: undo, ariaLabel: `Undo: ${text}` }, "Undo"));
     }));
-    $("stream-words").textContent = `${counted(stream.length, "byte")}: ${hexOf(stream.subarray(0, 40))}${stream.length > 40 ? " …" : ""}`;
-    $("question").textContent = frames ? "How many frames play?" : "Which number does the first call give that plays no frame?";
-    fill($("guesses"), ...(frames ? FRAMES : NUMBERS).map(([value, words]) => make("label", {}, make("input", { type: "radio", name: "guess", value }), ` ${words}`)));
+    fill($("stream-words"), ...hexWords(streams.at(-1)));
+    $("where").max = Math.max(0, streams.at(-1).length - 1);
+    $("question").textContent = frames ? "How many frames play?" : "Look at the first call that plays no frame. Which number does it give?";
+    fill($("guesses"), ...guesses(frames));
     fill($("answer"));
+    $("answer-lines").textContent = "";
 }
 
+// A plan of the person's own. An edit that no longer fits is left out.
 function own(words) {
-    $("exercise").value = EXERCISES.length;
-    showPlan({ begin: plan.begin, edits: plan.edits, ...words, task: OWN.task });
+    const { begin, edits = [] } = { ...plan, ...words };
+    let length = made({ begin }, book, clips).length;
+    const fitting = edits.filter((edit, at) => {
+        const fits = edit.edit !== "flip" || edit.where < length;
+        if (fits) length = made({ begin, edits: edits.slice(0, at + 1) }, book, clips).length;
+        return fits;
+    });
+    $("exercise").value = exercises.length;
+    showPlan({ begin, edits: fitting, task: OWN });
 }
 
 // The boxes that an edit asks for.
 function showBoxes() {
-    const { needs, choices = {} } = EDITS[$("edit").value];
-    for (const id of ["where", "bit", "what"]) $(`${id}-label`).hidden = !needs.includes(id);
-    fill($("what"), ...options(choices));
+    const edit = $("edit").value;
+    for (const id of ["where", "bit", "what"]) $(`${id}-label`).hidden = !EDITS[edit].needs.includes(id);
+    fill($("what"), ...options(book[edit] ?? {}));
+}
+
+function add() {
+    const edit = $("edit").value, needs = EDITS[edit].needs, number = (id) => Number($(id).value);
+    if (needs.every((id) => $(id).reportValidity())) own({ edits: [...(plan.edits ?? []), { edit, where: number("where"), bit: number("bit"), what: $("what").value }] });
 }
 
 async function see() {
-    const guess = document.querySelector("#guesses input:checked")?.value, clip = await listed("try", "try", made(plan, clips), 0);
-    const { calls, format } = clip, row = calls.number.findIndex((number) => number !== 0), number = calls.number[row];
+    const guess = document.querySelector("#guesses input:checked")?.value;
+    if (guess === undefined) return fill($("answer"), "Choose an answer first."), document.querySelector("#guesses input").focus();
+    const clip = await listed("try", "try", made(plan, book, clips), 0), { calls, format } = clip;
+    const row = calls.number.findIndex((number) => number !== 0), number = calls.number[row], { line } = verdict(clip);
     const answer = plan.asks === "frames" ? format.frames : number, right = Number(guess) === answer;
-    const said = guess === undefined ? "You made no guess." : `You said ${guess}. ${right ? "So it is." : `It is ${answer}.`}`;
-    const lines = Array.from({ length: Math.min(12, calls.count) }, (_, at) => calls.text(at, calls.framesBefore(at)));
+    const lines = Array.from({ length: Math.min(CALLS, calls.count) }, (_, at) => calls.text(at, calls.framesBefore(at)));
     fill($("answer"),
-        make("p", { className: guess === undefined ? "" : right ? "ok" : "off" }, said),
-        make("p", {}, chip(number), ` ${REASONS[number]}, behind ${counted(row, "frame")}. ${plan.because ?? ""}`),
-        make("p", {}, [...verdict(clip).advice, `${verdict(clip).line}.`].join(" ")), make("pre", {}, [...lines, ...(calls.count > 12 ? [".."] : [])].join("\n")));
+        make("p", { className: right ? "ok" : "off" }, `You said ${guess}. ${right ? "So it is." : `It is ${answer}.`}`),
+        make("p", {}, chip(number), ` ${REASONS[number]}. ${row ? `It came after ${counted(row, "frame")}.` : "It is the first call."} ${plan.because ?? ""}`));
+    $("answer-lines").textContent = [`${line}.`, "", ...lines, ...(calls.count > CALLS ? [".."] : [])].join("\n");
 }
 
 // `open` shows a stream in "Listen and see".
 export function startTryIt(streams, open) {
-    const number = (id) => Math.max(0, Math.floor(Number($(id).value)));
+    const chosen = () => Number($("exercise").value);
     clips = streams;
-    fill($("exercise"), ...EXERCISES.map((_, i) => option(i, `${i + 1} of ${EXERCISES.length}`)), option(EXERCISES.length, "your own stream"));
-    fill($("begin"), ...options(BEGINNINGS));
+    fill($("exercise"), ...exercises.map((_, i) => option(i, `${i + 1} of ${exercises.length}`)), option(exercises.length, "your own stream"));
+    fill($("begin"), ...options(book.beginnings));
     fill($("edit"), ...options(EDITS));
-    $("exercise").onchange = () => showPlan(EXERCISES[$("exercise").value] ?? { ...plan, task: OWN.task, asks: "", because: "" });
+    $("exercise").onchange = () => (chosen() < exercises.length ? showPlan(exercises[chosen()]) : own({}));
     $("next-exercise").onclick = () => {
-        $("exercise").value = (Number($("exercise").value) + 1) % EXERCISES.length;
+        $("exercise").value = chosen() < exercises.length - 1 ? chosen() + 1 : 0;
         $("exercise").onchange();
     };
     $("begin").onchange = () => own({ begin: $("begin").value, edits: [] });
     $("edit").onchange = showBoxes;
-    $("add").onclick = () => own({ edits: [...(plan.edits ?? []), [$("edit").value, { where: number("where"), bit: number("bit"), what: $("what").value }]] });
+    $("add").onclick = add;
     $("see").onclick = see;
-    $("open-it").onclick = () => open("your stream", made(plan, clips));
+    $("open-it").onclick = () => open("your stream", made(plan, book, clips));
+    $("the-words").onclick = () => (($("words").open = true), $("words").querySelector("summary").focus());
     showBoxes();
-    showPlan(EXERCISES[0]);
+    showPlan(exercises[0]);
 }

@@ -1,5 +1,5 @@
 // What the page says: each number's reason, a header, a clip's verdict, and what a file is that is no clip.
-import { fields } from "./header.js";
+import { fields, frameBytes } from "./header.js";
 import { goesOn } from "./calls.js";
 import { PAIRS } from "./tag.js";
 
@@ -17,55 +17,65 @@ export const seconds = (frames, rate) => `${((frames * PAIRS) / rate).toFixed(2)
 export const times = (number) => (number === 1 ? "once" : `${grouped(number)} times`);
 export const counted = (number, word) => `${grouped(number)} ${word}${number === 1 ? "" : "s"}`;
 export const hexOf = (bytes) => [...bytes].map((byte) => byte.toString(16).toUpperCase().padStart(2, "0")).join(" ");
-export const formatWords = ({ rate, kbps, mode }) => `${grouped(rate)} samples a second, ${kbps} kbps, ${MODES[mode]}`;
+
+const VALUES = {
+    rate: ({ rate }) => (rate ? `${grouped(rate)} samples a second` : "sample rate 3, which is none"),
+    kbps: ({ kbps, bitRate }) => (kbps ? `${kbps} kbps` : `bit rate ${bitRate}, which is ${bitRate ? "none" : "free format and not played"}`),
+    mode: ({ mode }) => MODES[mode],
+};
+export const formatWords = (format) => Object.values(VALUES).map((words) => words(format)).join(", ");
 
 export function headerWords(stream, at) {
-    const { version, layer, checked, bitRate, rate, kbps, mode } = fields(stream, at);
-    if (version !== 3 || layer !== 2) return `${VERSIONS[version]}, ${LAYERS[layer]}`;
-    const rateWords = rate ? `${grouped(rate)} samples a second` : "sample rate 3, which is none";
-    const kbpsWords = kbps ? `${kbps} kbps` : `bit rate ${bitRate}, which is ${bitRate ? "none" : "free format and not played"}`;
-    return `${rateWords}, ${kbpsWords}, ${MODES[mode]}${checked ? ", a check word" : ""}`;
+    const found = fields(stream, at);
+    if (found.version !== 3 || found.layer !== 2) return `${VERSIONS[found.version]}, ${LAYERS[found.layer]}`;
+    return formatWords(found) + (found.checked ? ", a check word" : "");
 }
 
-// Where a header of another format leaves the one that the clip began with.
-function partings(stream, at, format) {
-    const found = fields(stream, at), told = { kbps: ["", " kbps"], rate: ["", " samples a second"], mode: ["", ""] };
-    const names = Object.keys(told).filter((name) => found[name] !== format[name]);
-    const value = (from, name) => (name === "mode" ? MODES[from.mode] : grouped(from[name]));
-    const says = names.map((name) => value(found, name) + told[name][1]), began = names.map((name) => value(format, name));
-    return `the header says ${says.join(", ")}, the clip began with ${began.join(", ")}`;
-}
-
-// Why a call played nothing, with what its header says.
+// What of a header made the decoder refuse it. It reads the fields in their order, and stops at the first that is wrong.
 export function why({ calls, stream, format }, row) {
-    const number = calls.number[row], at = calls.header(row);
-    if (number === 6) return partings(stream, at, format);
-    return number >= 3 && number <= 5 ? `the header says ${headerWords(stream, at)}` : REASONS[number];
+    const number = calls.number[row], found = fields(stream, calls.header(row));
+    if (number === 3) return headerWords(stream, calls.header(row));
+    if (number === 4 || number === 5) return VALUES[number === 4 ? "kbps" : "rate"](found);
+    const parted = Object.keys(VALUES).filter((name) => found[name] !== format[name]), told = (from) => parted.map((name) => VALUES[name](from)).join(", ");
+    return `${told(found)}, the clip began with ${parted.join() === "kbps" ? format.kbps : told(format)}`;
+}
+
+function refusal(clip, number, { count, first, alike }) {
+    const says = number > 2 ? `${alike ? "the header says" : "the first such header says"} ${why(clip, first)}` : REASONS[number];
+    return `refused ${number}, ${times(count)}: ${says}`;
 }
 
 const ADVICE = {
-    3: "Bytes that look like a header, but are none of Layer II, stand in it (3).",
-    4: "A header with a bit rate that is none stands in it (4).",
-    5: "A header with a sample rate that is none stands in it (5).",
-    6: "Part of it has another format than its beginning, and is not played (6). This clip is to be made anew.",
-    7: "Its last frame is cut off, and is not played (7). The file is not whole: have it sent again.",
-    front: (bytes) => `In front of its first frame ${counted(bytes, "byte")} were passed over.`,
-    between: (bytes) => `Between its frames ${counted(bytes, "byte")} were passed over. A frame may be missing there.`,
-    behind: (bytes) => `Behind its last frame ${counted(bytes, "byte")} were passed over.`,
+    3: "Bytes in it look like a header, but are none of Layer II (3). Tell the maker of this clip.",
+    4: "A header in it has a bit rate that is none (4). Tell the maker of this clip.",
+    5: "A header in it has a sample rate that is none (5). Tell the maker of this clip.",
+    6: "Part of it has another format than its beginning, and is not spoken (6). Have each clip made again, as a file of its own.",
+    7: "Its last frame is cut off, and is not spoken (7). Have the file sent again.",
 };
+const MISSING = { front: ["In front of its first frame", "the beginning"], between: ["Between its frames", "something"], behind: ["Behind its last frame", "the end"] };
 
-// A clip in words: a judgement for its keeper, and one line with every number.
+function outside(where, bytes, frames) {
+    const [place, part] = MISSING[where], passed = `${place} ${counted(bytes, "byte")} were passed over.`;
+    return frames ? `${passed} That is room for ${counted(frames, "frame")}: ${part} may be missing. Have the file sent again.` : passed;
+}
+
+// A clip in words: a judgement for its keeper, what to do, and one line with every number.
 export function verdict(clip) {
-    const { tally, format, bytes } = clip, refused = tally.flatMap(({ count, first }, number) => [{ number, count, first }]);
-    const parts = refused.filter(({ number }) => number > 1 && goesOn(number))
-        .map(({ number, count, first }) => `refused ${number}, ${times(count)}: ${why(clip, first)}`);
-    const sound = counted(format.frames, "frame") + (format.frames ? `, ${seconds(format.frames, format.rate)}` : ""), last = tally[7] ? 7 : 1;
-    const line = [sound, ...parts, `ended with ${last}: ${REASONS[last]}`].join("; ");
-    if (!format.frames) return { kind: "none", judgement: "Nothing here can be played.", advice: [fileWords(clip)], line };
-    const outside = ["front", "between", "behind"].filter((where) => bytes[where]).map((where) => ADVICE[where](bytes[where]));
-    const troubles = refused.filter(({ number }) => ADVICE[number]).map(({ number }) => ADVICE[number]), advice = [...troubles, ...outside];
-    if (troubles.length || bytes.between) return { kind: "partly", judgement: "This clip plays, but not all is well.", advice, line };
-    return { kind: "whole", judgement: outside.length ? "This clip plays." : "This clip plays whole.", advice, line };
+    const { tally, format, bytes, stream } = clip, { frames } = format, numbers = Object.keys(tally).map(Number).filter((number) => number > 1);
+    const refused = numbers.filter(goesOn).sort((one, other) => tally[one].first - tally[other].first).map((number) => refusal(clip, number, tally[number]));
+    const sound = counted(frames, "frame") + (frames ? `, ${seconds(frames, format.rate)}` : ""), last = tally[7] ? 7 : 1;
+    const line = [sound, ...refused, `ended with ${last}: ${REASONS[last]}`].join("; ");
+    if (!frames) return { kind: "none", judgement: "Nothing here can be played.", advice: [fileWords(clip)], line };
+    const places = Object.keys(MISSING).filter((where) => bytes[where]), size = frameBytes(format);
+    if (bytes.front + bytes.between + bytes.behind > 0.9 * stream.length) {
+        return { kind: "none", judgement: "This is hardly a clip.", advice: [fileWords(clip), "What plays of it may be noise."], line };
+    }
+    const missing = places.map((where) => outside(where, bytes[where], Math.floor(bytes[where] / size)));
+    const advice = [...numbers.filter((number) => ADVICE[number]).map((number) => ADVICE[number]), ...missing];
+    if (numbers.some((number) => ADVICE[number]) || places.some((where) => where === "between" || bytes[where] >= size)) {
+        return { kind: "partly", judgement: "Do not use this clip yet: part of the file was not played.", advice, line };
+    }
+    return { kind: "whole", judgement: "Every frame was played.", advice: [...advice, "Now listen: the page cannot tell whether the words are right."], line };
 }
 
 const starts = (text, at = 0) => (stream) => [...text].every((letter, i) => stream[at + i] === letter.charCodeAt(0));
@@ -73,7 +83,7 @@ const isText = (stream) => stream.subarray(0, 512).every((byte) => [9, 10, 13].i
 const second = (...values) => (stream) => stream[0] === 255 && values.includes(stream[1] & 254);
 const FILES = [
     [(stream) => !stream.length, "The file is empty: it has no byte."],
-    [starts("ID3"), "This is an MP3 file with a title: MPEG audio, but Layer III."],
+    [starts("ID3"), "This looks like an MP3 file with a title: MPEG audio, but Layer III."],
     [second(0xfa, 0xf2, 0xe2), "This looks like an MP3 file: MPEG audio, but Layer III."],
     [second(0xf4), "This looks like Layer II at a low sample rate (MPEG-2), which this decoder does not read."],
     [second(0xf0, 0xf8), "This looks like an AAC file."],
@@ -83,12 +93,12 @@ const FILES = [
     [starts("%PDF"), "This is a PDF document."], [starts("PK\x03\x04"), "This is a ZIP file."],
     [starts("\x00\x00\x01"), "This looks like MPEG video. Its sound has to be taken out first."],
     [isText, "This is text."],
-    [() => true, "No frame of Layer II is in it."],
+    [() => true, "Hardly anything in it is Layer II."],
 ];
 
-// What a file is that has no frame.
-export function fileWords({ stream, tally }) {
-    if (tally[7]) return "A header was read, but the frame behind it is cut off (7). Nothing of it is played.";
+// What a file is that has no frame, or hardly one.
+function fileWords({ stream, tally, format }) {
+    if (tally[7] && !format.frames) return "A header was read, but the frame behind it is cut off (7). Have the file sent again.";
     const [, words] = FILES.find(([is]) => is(stream));
-    return `${words} A clip for the tag is MPEG-1 Layer II, a file whose name ends in .mp2.`;
+    return `${words} A clip for the tag is MPEG-1 Layer II, a file whose name ends in .mp2. Ask the maker for that file.`;
 }
