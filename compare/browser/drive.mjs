@@ -44,7 +44,7 @@ async function compareFiles(count, page) {
 const VERDICTS = {
     citrus: "149 frames, 3.89 s; ended with 1: no header can follow.",
     lavender: "154 frames, 4.02 s; ended with 1: no header can follow.",
-    incident: "149 frames, 3.89 s; refused 2, once: no sync found; refused 6, 154 times: the header says 48 kbps, the clip began with 64; ended with 1: no header can follow.",
+    incident: "149 frames, 3.89 s; refused 6, 154 times: the header says 48 kbps, the clip began with 64; refused 2, once: no sync found; ended with 1: no header can follow.",
     "joined-alike": "22 frames, 0.53 s; ended with 1: no header can follow.",
     "joined-bit-rates": "12 frames, 0.29 s; refused 6, 6 times: the header says 96 kbps, the clip began with 128; ended with 1: no header can follow.",
 };
@@ -52,8 +52,7 @@ const VERDICTS = {
 // The clips that are built in: the verdict of each, by hand from the Rust's answers, and its picture.
 async function compareClips(count, page) {
     for (const name of await page.run("[...pick.options].map(({ value }) => value).filter((value) => value !== 'own')")) {
-        await page.choose("pick", name);
-        await page.until(`verdict.getAttribute("aria-busy") === "false"`);
+        await page.pick(name);
         await page.keep(`clip-${name}`);
         if (VERDICTS[name]) count.same(await page.text("line"), VERDICTS[name], `the verdict of ${name}`);
         count.holds((await page.text("shows")).length > 20, `${name} has a sentence`);
@@ -61,7 +60,7 @@ async function compareClips(count, page) {
     count.same(await page.run("readings.hidden"), true, "no switch is shown that does nothing");
 }
 
-const isOn = (name) => `document.getElementById("${name}").textContent === "■ Stop"`;
+const isOn = (name) => `document.getElementById("${name}").textContent === "Stop"`;
 
 // What is given to the loudspeaker is the WAV file's samples, and no piece comes early or late.
 async function comparePlayed(count, page) {
@@ -78,31 +77,36 @@ async function comparePlayed(count, page) {
 }
 
 async function compareSound(count, page) {
-    await page.choose("pick", "citrus");
-    await page.until(`line.textContent.startsWith("149 frames, 3.89 s; ended")`);
+    await page.pick("citrus");
     await comparePlayed(count, page);
     await page.click("#play");
     await page.until(`${isOn("play")} && parseFloat(clock.textContent) > 0.5`);
     await page.keep("playing");
     await page.click("#play");
-    count.same(await page.text("play"), "▶ Play", "the button after it was stopped");
+    count.same(await page.text("play"), "Play", "the button after it was stopped");
+    count.holds(parseFloat(await page.text("clock")) > 0.5, "the place where it was stopped stays");
     await page.focus("place");
     for (const key of ["End", "ArrowLeft", "ArrowLeft"]) await page.key(key);
     count.same(await page.text("clock"), "3.81 s of 3.89 s", "the place by keys");
     await page.click("#play");
     await page.until(isOn("play"));
     await page.until(`!(${isOn("play")})`);
-    count.holds(true, "the sound ends by itself");
+    count.same(await page.text("clock"), "0.00 s of 3.89 s", "at its end the sound goes back to its beginning");
     await page.click("#wave", 0.75);
     await page.until("!head.hidden && parseFloat(clock.textContent) > 2.9");
     count.holds(parseFloat(await page.run("head.style.left")) >= 75, "a line goes along the wave");
+    await page.focus("place");
+    await page.key("Home");
+    await page.until(`${isOn("play")} && parseFloat(clock.textContent) < 2`);
+    count.holds(true, "the place is moved while it plays");
     await page.click("#play");
 }
 
 async function compareBytes(count, page) {
-    await page.choose("pick", "incident");
-    await page.until(`chosen.textContent.includes("refused 6 at 30995")`);
-    count.holds((await page.text("hex")).startsWith("from byte 30,992: FF FD 20 C4 65"), "the bytes of the first refusal");
+    await page.pick("incident");
+    count.holds((await page.text("chosen")).includes("refused 6 at 30995"), "the first refusal is chosen");
+    count.holds((await page.text("hex")).startsWith("From byte 30,992: header FF FD 20 C4 neither 65"), `the bytes of the first refusal: ${await page.text("hex")}`);
+    count.same(await page.text("legend"), "sound, 30,342 bytesits headers, 596 bytespassed over, 54 bytesheaders refused with 6, 616 bytespassed over behind 6, 23,408 bytes", "the legend");
     const steps = [["#previous", "frame 148 at 30788"], ["#next", "refused 6 at 30995"], ["#next", "refused 6 at 31151"], ["#refusal", "refused 6 at 30995"]];
     for (const [button, words] of steps) {
         await page.click(button);
@@ -116,6 +120,7 @@ async function compareBytes(count, page) {
     await page.until(`document.querySelectorAll("#calls details:nth-child(2) .call").length === 100`);
     await page.click("#calls details:nth-child(2) > button:last-child");
     count.same(await page.run(`document.querySelectorAll("#calls details:nth-child(2) .call").length`), 154, "all rows of a run");
+    count.same(await page.run("document.activeElement.dataset.row"), "249", "the first new row has the focus");
     await page.click("#calls details:nth-child(2) .call:nth-child(4)");
     count.holds((await page.text("chosen")).includes("refused 6 at 31307"), "a row that is chosen");
     await page.keep("bytes");
@@ -146,6 +151,7 @@ async function compareRing(count, page) {
     await page.focus("frames");
     await page.key("ArrowLeft");
     await page.until(`document.getElementById("frames-words").textContent === "11 of 12"`);
+    count.same(await page.run("document.getElementById('frames').ariaValueText"), "11 of 12", "the slider says so");
     await facts("11 frames in front, divided by 4, leave 3.");
     count.holds(!(await page.text("ring-facts")).includes(", 0 differ"), "behind 11 frames last bits differ");
     await page.keep("ring-out-11");
@@ -171,7 +177,7 @@ async function compareTries(count, page) {
             await page.click(`#guesses input[value="${guess}"]`);
             await page.run("answer.replaceChildren()");
             await page.click("#see");
-            await page.until("answer.textContent");
+            await page.until(`answer.textContent.startsWith("You said")`);
             count.holds((await page.text("answer")).startsWith(`You said ${guess}. ${guess === right ? "So it is." : `It is ${right}.`}`), `exercise ${i + 1}, guess ${guess}: ${await page.text("answer")}`);
         }
         await page.keep(`exercise-${i + 1}`);
@@ -182,22 +188,40 @@ async function compareTries(count, page) {
 // A stream of one's own: each thing that can be done, undone again, and opened.
 async function compareOwn(count, page) {
     const length = async (bytes, words) => count.holds((await page.text("stream-words")).startsWith(bytes), `${words}: ${await page.text("stream-words")}`);
+    await page.click("#see");
+    count.same(await page.text("answer"), "Choose an answer first.", "no answer without a guess");
     await page.choose("begin", "citrus");
-    await length("832 bytes: FF FD 40 C4", "the beginning");
-    for (const [edit, boxes, bytes] of [["flip", { where: "2", bit: "7" }, "832 bytes: FF FD 41"], ["cut", { where: "600" }, "600 bytes"], ["front", { what: "ones" }, "603 bytes: FF FF FF FF FD"], ["behind", { what: "lavender" }, "1,851 bytes"]]) {
+    await length("832 bytes, from byte 0: FF FD 40 C4", "the beginning");
+    for (const [id, value] of [["where", "99999"], ["bit", "8"], ["where", ""]]) {
+        await page.choose(id, value);
+        await page.click("#add");
+        count.same(await page.run("edits.children.length"), 0, `${id} ${value} is not taken`);
+        await page.choose(id, "0");
+    }
+    const edits = [
+        ["flip", { where: "2", bit: "7" }, "832 bytes, from byte 0: FF FD 41"], ["flip", { where: "700", bit: "0" }, "832 bytes, from byte 692"], ["cut", { where: "600" }, "600 bytes"],
+        ["front", { what: "ones" }, "603 bytes, from byte 0: FF FF FF FF FD"], ["behind", { what: "lavender" }, "1,851 bytes"],
+    ];
+    for (const [edit, boxes, bytes] of edits) {
         await page.choose("edit", edit);
         for (const [id, value] of Object.entries(boxes)) await page.choose(id, value);
         await page.click("#add");
         await length(bytes, edit);
     }
     await page.keep("own-stream");
-    for (const bytes of ["1,848 bytes", "600 bytes"]) {
-        await page.click("#edits li:nth-child(3) button");
+    count.holds((await page.text("edits")).includes("flip bit 7 of byte 2: 0100 0000 becomes 0100 0001"), `the edits in words: ${await page.text("edits")}`);
+    for (const bytes of ["603 bytes", "600 bytes"]) {
+        await page.click("#undo");
         await length(bytes, "undone");
+        count.same(await page.run("document.activeElement.id"), "add", "the focus is not lost");
     }
     await page.click("#open-it");
     await page.until(`!listen.hidden && line.textContent.startsWith("2 frames")`);
-    count.same(await page.text("shows"), "Your own: your stream.", "it is opened in the first view");
+    count.same(await page.text("of"), "your stream, 600 bytes", "it is opened in the first view");
+    await page.until(`document.activeElement.id === "judgement"`);
+    await page.view("try-it");
+    await page.click("#the-words");
+    count.same(await page.run("words.open && document.activeElement.tagName"), "SUMMARY", "the words are shown");
 }
 
 // Files that are no clip: a sentence, and the page goes on.
@@ -205,15 +229,15 @@ async function compareOthers(count, page) {
     const text = (words) => Buffer.from(words, "latin1");
     const files = {
         "empty.mp2": [text(""), "The file is empty: it has no byte."],
-        "song.mp3": [Buffer.concat([text("ID3\x04\x00\x00\x00\x00\x00\x10"), Buffer.alloc(16)]), "This is an MP3 file with a title"],
+        "song.mp3": [Buffer.concat([text("ID3\x04\x00\x00\x00\x00\x00\x10"), Buffer.alloc(16)]), "This looks like an MP3 file with a title"],
         "bare.mp3": [Buffer.concat([Buffer.from([0xff, 0xfb, 0x90, 0]), Buffer.alloc(413)]), "This looks like an MP3 file"],
         "low.mp2": [Buffer.concat([Buffer.from([0xff, 0xf5, 0x84, 0xc4]), Buffer.alloc(300)]), "This looks like Layer II at a low sample rate"],
         "sound.wav": [stored.wavOf(stored.clips.citrus.slice(0, 416)), "This is a WAV file: its sound is decoded already."],
         "list.txt": [text("Contains linalool, geraniol and coumarin.\n"), "This is text."],
         "picture.png": [Buffer.concat([text("\x89PNG\r\n\x1a\n"), Buffer.alloc(50)]), "This is a picture (PNG)."],
-        "one.mp2": [Buffer.from([255]), "No frame of Layer II is in it."],
+        "one.mp2": [Buffer.from([255]), "Hardly anything in it is Layer II."],
         "cut.mp2": [stored.clips.citrus.slice(0, 100), "A header was read, but the frame behind it is cut off (7)."],
-        "zeros.mp2": [Buffer.alloc(5000), "No frame of Layer II is in it."],
+        "zeros.mp2": [Buffer.alloc(5000), "Hardly anything in it is Layer II."],
     };
     for (const [name, [bytes, words]] of Object.entries(files)) {
         await page.give(made(name, bytes));
@@ -222,14 +246,14 @@ async function compareOthers(count, page) {
         await page.keep(`no-clip-${name}`);
     }
     await page.give("clips/citrus.mp2");
-    count.same(await page.text("judgement"), "✔ This clip plays whole.", "a clip after all these");
+    count.same(await page.text("judgement"), "✔ Every frame was played.", "a clip after all these");
 }
 
 async function compareDrop(count, page) {
     await page.run(`(() => { const files = new DataTransfer(); files.items.add(new File([new Uint8Array([255, 253, 160, 0]), new Uint8Array(622)], "dropped.mp2"));
         dispatchEvent(new DragEvent("dragenter")); window.marked = document.body.classList.contains("drop"); dispatchEvent(new DragEvent("drop", { dataTransfer: files, cancelable: true })); })()`);
-    await page.until(`shows.textContent === "Your own: dropped.mp2."`);
-    await page.until(`verdict.getAttribute("aria-busy") === "false"`);
+    await page.until(`document.getElementById("of").textContent === "dropped.mp2, 626 bytes"`);
+    await page.read();
     count.same(await page.run("marked && !document.body.classList.contains('drop')"), true, "a file over the page is marked");
     count.same(await page.text("line"), "1 frame, 0.03 s; refused 2, once: no sync found; ended with 1: no header can follow.", "a file that was dropped");
 }
@@ -237,15 +261,18 @@ async function compareDrop(count, page) {
 // The longest streams: the page stays awake, tells how far it is, and can be told to stop.
 async function compareLong(count, page) {
     const ones = made("ones.mp2", Buffer.alloc(16777216, 255)), copies = Buffer.concat(Array(541).fill(stored.clips.citrus)), long = made("long.mp2", copies);
-    await page.give(made("too-long.mp2", Buffer.alloc(16777217)));
-    count.holds((await page.text("trouble")).includes("too-long.mp2 has 16,777,217 bytes. That is too long (8)"), `too long: ${await page.text("trouble")}`);
+    await page.start(made("too-long.mp2", Buffer.alloc(16777217)));
+    count.same(await page.text("judgement"), "✖ The file is too long (8).", "a file that is too long");
+    count.same(await page.text("of"), "too-long.mp2, 16,777,217 bytes", "its name and length");
+    await page.keep("too-long");
     await page.watch();
     await page.start(long);
     await page.until("!working.hidden && progress.value > 0.05");
     await page.keep("at-work");
     await page.click("#cancel");
-    await page.until("!trouble.hidden && working.hidden");
-    count.same(await page.text("trouble"), "long.mp2 was not read to its end. The page still shows dropped.mp2.", "after it was cancelled");
+    await page.until("working.hidden");
+    count.same(await page.text("judgement"), "✖ It was not read to its end.", "after it was cancelled");
+    count.same(await page.run("sound.hidden && bytes.hidden && list.hidden"), true, "nothing of another clip stands under its name");
     await page.give(ones);
     count.holds((await page.text("line")).startsWith("0 frames; refused 3, 8,388,606 times: the header says MPEG-1, Layer I"), `16 MiB of FF: ${await page.text("line")}`);
     await page.keep("ones");
@@ -263,12 +290,11 @@ async function compareLong(count, page) {
 
 // For everybody: names, keys, contrast in light and dark, narrow screens.
 async function compareLooks(count, page) {
-    await page.choose("pick", "incident");
-    await page.until(`line.textContent.startsWith("149 frames, 3.89 s; refused 2")`);
+    await page.pick("incident");
     await page.run("document.querySelectorAll('details').forEach((details) => (details.open = true)), 0");
     for (const view of VIEWS) {
         await page.view(view);
-        if (view === "try-it") await page.click("#see");
+        if (view === "try-it") for (const button of ["#guesses input", "#see"]) await page.click(button);
         await compareNames(count, page, view);
         await compareKeys(count, page, view);
         for (const [wide, scheme] of [[1180, "light"], [1180, "dark"], [390, "light"], [320, "dark"]]) {

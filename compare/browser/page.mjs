@@ -6,17 +6,25 @@ import { Browser, sleep } from "./chromium.mjs";
 export const SHOTS = path.resolve("target/page/shots");
 
 export class Page extends Browser {
-    // Gives the file to "Open a file…", and waits until its verdict stands there, or why there is none.
-    async give(file, seconds = 120) {
+    // Gives the file to "Open a file…", and waits until its verdict stands there.
+    async give(file) {
         await this.start(file);
-        await this.until(`verdict.getAttribute("aria-busy") === "false" || !trouble.hidden`, seconds);
+        await this.read();
     }
 
     async start(file) {
-        await this.run("window.given = shows.textContent; trouble.hidden = true");
         const { result } = await this.send("Runtime.evaluate", { expression: "file" });
+        await this.run(`document.getElementById("of").textContent = ""`);
         await this.send("DOM.setFileInputFiles", { files: [path.resolve(file)], objectId: result.objectId });
-        await this.until(`shows.textContent !== given || !trouble.hidden || shows.textContent.includes(${JSON.stringify(path.basename(file))})`);
+        await this.until(`document.getElementById("of").textContent.startsWith(${JSON.stringify(path.basename(file))})`);
+    }
+
+    read() { return this.until(`verdict.getAttribute("aria-busy") === "false"`, 120); }
+
+    // Picks a clip of ours, and waits until its verdict stands there.
+    async pick(name) {
+        await this.choose("pick", name);
+        await this.read();
     }
 
     // Presses a button that saves a file, and gives its bytes.

@@ -23,18 +23,20 @@ export function showBytes(next, told) {
 }
 
 function showLegend() {
-    const { sound, headers, refused, passed } = clip.bytes, kinds = [["sound", "sound", sound], ["header", "its headers", headers], ["passed", "passed over", passed[0]]];
+    const { sound, headers, refused, passed } = clip.bytes;
+    const kinds = [["sound", "sound", sound], ["header", "its headers", headers], ["passed", "passed over", passed[0]]];
     refused.forEach((bytes, number) => kinds.push([`refused-${number}`, `headers refused with ${number}`, bytes]));
-    passed.forEach((bytes, number) => number && kinds.push([`pale-${number}`, number === 2 ? "searched, no sync found (2)" : `passed over behind ${number}`, bytes]));
-    fill($("legend"), ...kinds.filter(([, , bytes]) => bytes).map(([name, words, bytes]) =>
-        make("li", {}, make("i", { style: `background: var(--${name})` }), `${words}, ${counted(bytes, "byte")}`)));
+    passed.slice(2).forEach((bytes, i) => kinds.push([`pale-${i + 2}`, i ? `passed over behind ${i + 2}` : "searched, no sync found (2)", bytes]));
+    const shown = kinds.filter(([, , bytes]) => bytes), square = (name) => make("i", { style: `background: var(--${name})` });
+    fill($("legend"), ...shown.map(([name, words, bytes]) => make("li", {}, square(name), `${words}, ${counted(bytes, "byte")}`)));
     $("byte").max = Math.max(0, clip.stream.length - 1);
 }
 
 // A call in words, as a keeper would say it.
 function callWords(at, framesBefore) {
     const number = calls.number[at];
-    if (number === 0) return `plays at ${seconds(framesBefore, calls.format.rate)}; ${counted(calls.bits[at], "bit")} from byte ${grouped(calls.data(at))} on`;
+    const data = () => `${counted(calls.bits[at], "bit")} from byte ${grouped(calls.data(at))} on`;
+    if (number === 0) return `plays at ${seconds(framesBefore, calls.format.rate)}; ${data()}`;
     return number >= 3 && number <= 6 ? `${REASONS[number]}: the header says ${why(clip, at)}` : REASONS[number];
 }
 
@@ -65,7 +67,8 @@ function showRows(list, from, count, framesBefore) {
 function runWords(first, count, framesBefore) {
     const number = calls.number[first], last = framesBefore + count, { rate } = calls.format;
     if (number !== 0) return `${count > 1 ? `${times(count)}: ` : ""}${REASONS[number]}`;
-    return `frame${count > 1 ? "s" : ""} ${framesBefore}${count > 1 ? ` to ${last - 1}` : ""}: ${seconds(framesBefore, rate)} to ${seconds(last, rate)}`;
+    const names = count > 1 ? `frames ${framesBefore} to ${last - 1}` : `frame ${framesBefore}`;
+    return `${names}: ${seconds(framesBefore, rate)} to ${seconds(last, rate)}`;
 }
 
 // Runs of calls with the same answer, some at a time.
@@ -83,7 +86,8 @@ function showRuns(first, framesBefore) {
 
 // The bytes from a call's header on, or from where it began: header, check word, sound, and what is none of them.
 function hexWords(from, header) {
-    const { stream } = clip, frame = calls.isFrame(row), body = header < 0 ? from : header + 4, data = frame ? calls.data(row) : body, end = frame ? calls.end(row) : body;
+    const { stream } = clip, frame = calls.isFrame(row), body = header < 0 ? from : header + 4;
+    const data = frame ? calls.data(row) : body, end = frame ? calls.end(row) : body;
     const parts = [["b", "header", from, body], ["span", "check word", body, data], ["em", "sound", data, end], ["span", "neither", end, Infinity]];
     const shown = parts.flatMap(([name, words, first, last]) => {
         const bytes = stream.subarray(Math.min(first, from + HEX), Math.min(last, from + HEX));

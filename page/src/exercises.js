@@ -9,26 +9,27 @@ function piece({ clip, bytes, hex, zeros = 0 }, clips) {
 
 const binary = (byte) => byte.toString(2).padStart(8, "0").replace(/^..../, "$& ");
 const flipped = (byte, bit) => byte ^ (128 >> bit);
+const becomes = (byte, bit) => `${binary(byte)} becomes ${binary(flipped(byte, bit))}`;
 
 // Each makes a stream of a stream. `needs` are the boxes that it asks for, `put` is what is put in front or behind.
 export const EDITS = {
     flip: {
-        name: "flip a bit", needs: ["where", "bit"], make: (stream, { where, bit }) => stream.map((byte, at) => (at === where ? flipped(byte, bit) : byte)),
-        words: (stream, { where, bit }) => `flip bit ${bit} of byte ${where}: ${binary(stream[where])} becomes ${binary(flipped(stream[where], bit))}`,
+        name: "flip a bit", needs: ["where", "bit"], words: ({ where, bit }, { [where]: byte }) => `flip bit ${bit} of byte ${where}: ${becomes(byte, bit)}`,
+        make: (stream, { where, bit }) => stream.map((byte, at) => (at === where ? flipped(byte, bit) : byte)),
     },
-    cut: { name: "cut it", needs: ["where"], make: (stream, { where }) => stream.slice(0, where), words: (_, { where }) => `cut it at byte ${where}` },
-    front: { name: "put junk in front", needs: ["what"], make: (stream, _, put) => joined([put, stream]), words: (_, { name }) => `put in front: ${name}` },
-    behind: { name: "join a clip behind it", needs: ["what"], make: (stream, _, put) => joined([stream, put]), words: (_, { name }) => `join behind it: ${name}` },
+    cut: { name: "cut it", needs: ["where"], words: ({ where }) => `cut it at byte ${where}`, make: (stream, { where }) => stream.slice(0, where) },
+    front: { name: "put junk in front", needs: ["what"], words: ({ name }) => `put in front: ${name}`, make: (stream, _, put) => joined([put, stream]) },
+    behind: { name: "join a clip behind", needs: ["what"], words: ({ name }) => `join behind: ${name}`, make: (stream, _, put) => joined([stream, put]) },
 };
 
 // The streams of an exercise, before and after each edit, out of the book of exercises and the built-in clips.
 export function steps({ begin, edits = [] }, book, clips) {
     const streams = [piece(book.beginnings[begin], clips)];
-    for (const words of edits) streams.push(EDITS[words.edit].make(streams.at(-1), words, words.what && piece(book[words.edit][words.what], clips)));
+    for (const { edit, what, ...words } of edits) streams.push(EDITS[edit].make(streams.at(-1), words, what && piece(book[edit][what], clips)));
     return streams;
 }
 
 export const made = (exercise, book, clips) => steps(exercise, book, clips).at(-1);
 
 // An edit in words: what it did to the stream before it.
-export const editWords = (words, stream, book) => EDITS[words.edit].words(stream, { ...words, ...book[words.edit]?.[words.what] });
+export const editWords = ({ edit, what, ...words }, stream, book) => EDITS[edit].words({ ...words, ...book[edit]?.[what] }, stream);

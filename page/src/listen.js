@@ -58,11 +58,9 @@ function showSound() {
     $("place").max = frames - 1;
     tell(0);
     $("wave").setAttribute("aria-label", `The wave of both channels, ${seconds(frames, format.rate)}`);
-    $("wave-words").textContent = [
-        `${formatWords(format)}.`, mode === 3 && "Mono: both channels are the same.",
-        marks.length && "▼ marks where calls were refused.", wave.values.some((value) => Math.abs(value) > 1) && "Red is louder than full scale, and is held there.",
-        "Click in the wave to play from there.",
-    ].filter(Boolean).join(" ");
+    const loud = wave.values.some((value) => Math.abs(value) > 1) && "Red is louder than full scale, and is held there.";
+    const words = [`${formatWords(format)}.`, mode === 3 && "Mono: both channels are the same.", marks.length && "▼ marks where calls were refused.", loud];
+    $("wave-words").textContent = [...words, "Click in the wave to play from there."].filter(Boolean).join(" ");
 }
 
 // Shows the place in the sound: in the slider, in seconds, and as a line in the wave.
@@ -99,7 +97,8 @@ export function startListen() {
         tell(frame);
         $("play").click();
     };
-    playButton($("play"), () => ({ sound: { ...clip.format, one: 32768, piece }, from: place(), step: tell, ended: (over) => tell(over ? 0 : place()) }));
+    const ended = (over) => tell(over ? 0 : place());
+    playButton($("play"), () => ({ sound: { ...clip.format, one: 32768, piece }, from: place(), step: tell, ended }));
     $("place").oninput = () => (isPlaying($("play")) ? playFrom(place()) : tell(place()));
     $("wave").onclick = (event) => playFrom(Math.floor((event.offsetX / event.target.clientWidth) * clip.format.frames));
     const failed = (problem) => trouble(`No file was saved: ${problem?.message ?? "it was cancelled"}.`);

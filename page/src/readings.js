@@ -12,7 +12,8 @@ export function showReadings(pick, again) {
     $("readings").hidden = !READINGS.length;
     for (const { bit, name, sentence, clip } of READINGS) {
         const box = make("input", { type: "checkbox", id: `reading-${bit}`, onchange: again });
-        $("readings").append(make("div", { className: "row" }, make("label", {}, box, ` ${name}: ${sentence}`), make("button", { onclick: () => pick(clip) }, "A clip that shows it")));
+        const button = make("button", { onclick: () => pick(clip) }, "A clip that shows it");
+        $("readings").append(make("div", { className: "row" }, make("label", {}, box, ` ${name}: ${sentence}`), button));
     }
 }
 

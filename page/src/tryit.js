@@ -11,13 +11,15 @@ let clips, plan;
 
 // The answers to choose from.
 function guesses(frames) {
-    const words = frames ? Array.from({ length: 9 }, (_, number) => counted(number, "frame")) : REASONS.map((reason, number) => number && `${number}: ${reason}`);
-    return words.flatMap((text, value) => text ? [make("label", {}, make("input", { type: "radio", name: "guess", value }), make("span", {}, text))] : []);
+    const words = frames ? [0, 1, 2, 3, 4, 5, 6, 7, 8].map((number) => counted(number, "frame")) : REASONS.map((reason, number) => `${number}: ${reason}`);
+    const choices = words.map((text, value) => make("label", {}, make("input", { type: "radio", name: "guess", value }), make("span", {}, text)));
+    return frames ? choices : choices.slice(1);
 }
 
 // The stream's first bytes, or those around the bit that was flipped last.
 function hexWords(stream) {
-    const last = plan.edits?.at(-1), at = last?.edit === "flip" ? last.where : -1, from = Math.max(0, at - 8), part = (first, end) => hexOf(stream.subarray(first, end));
+    const last = plan.edits?.at(-1), at = last?.edit === "flip" ? last.where : -1, from = Math.max(0, at - 8);
+    const part = (first, end) => hexOf(stream.subarray(first, end));
     const bytes = at < 0 ? [part(0, HEX)] : [part(from, at), " ", make("b", {}, part(at, at + 1)), " ", part(at + 1, from + HEX)];
     return [`${counted(stream.length, "byte")}${stream.length ? `, from byte ${grouped(from)}: ` : "."}`, ...bytes, from + HEX < stream.length ? " …" : ""];
 }
@@ -28,10 +30,8 @@ function showPlan(next) {
     const edits = plan.edits ?? [], streams = steps(plan, book, clips), frames = plan.asks === "frames";
     $("task").textContent = plan.task;
     $("begin").value = plan.begin;
-    fill($("edits"), ...edits.map((words, at) => {
-        const text = editWords(words, streams[at], book), undo = () => (own({ edits: edits.filter((_, i) => i !== at) }), $("add").focus());
-        return make("li", {}, `${text} `, make("button", { onclick: undo, ariaLabel: `Undo: ${text}` }, "Undo"));
-    }));
+    fill($("edits"), ...edits.map((words, at) => make("li", {}, editWords(words, streams[at], book))));
+    $("undo").hidden = !edits.length;
     fill($("stream-words"), ...hexWords(streams.at(-1)));
     $("where").max = Math.max(0, streams.at(-1).length - 1);
     $("question").textContent = frames ? "How many frames play?" : "Look at the first call that plays no frame. Which number does it give?";
@@ -40,17 +40,10 @@ function showPlan(next) {
     $("answer-lines").textContent = "";
 }
 
-// A plan of the person's own. An edit that no longer fits is left out.
-function own(words) {
-    const { begin, edits = [] } = { ...plan, ...words };
-    let length = made({ begin }, book, clips).length;
-    const fitting = edits.filter((edit, at) => {
-        const fits = edit.edit !== "flip" || edit.where < length;
-        if (fits) length = made({ begin, edits: edits.slice(0, at + 1) }, book, clips).length;
-        return fits;
-    });
+// A plan of the person's own.
+function own(begin, edits) {
     $("exercise").value = exercises.length;
-    showPlan({ begin, edits: fitting, task: OWN });
+    showPlan({ begin, edits, task: OWN });
 }
 
 // The boxes that an edit asks for.
@@ -61,8 +54,8 @@ function showBoxes() {
 }
 
 function add() {
-    const edit = $("edit").value, needs = EDITS[edit].needs, number = (id) => Number($(id).value);
-    if (needs.every((id) => $(id).reportValidity())) own({ edits: [...(plan.edits ?? []), { edit, where: number("where"), bit: number("bit"), what: $("what").value }] });
+    const edit = $("edit").value, words = { edit, where: Number($("where").value), bit: Number($("bit").value), what: $("what").value };
+    if (EDITS[edit].needs.every((id) => $(id).reportValidity())) own(plan.begin, [...(plan.edits ?? []), words]);
 }
 
 async function see() {
@@ -85,14 +78,15 @@ export function startTryIt(streams, open) {
     fill($("exercise"), ...exercises.map((_, i) => option(i, `${i + 1} of ${exercises.length}`)), option(exercises.length, "your own stream"));
     fill($("begin"), ...options(book.beginnings));
     fill($("edit"), ...options(EDITS));
-    $("exercise").onchange = () => (chosen() < exercises.length ? showPlan(exercises[chosen()]) : own({}));
+    $("exercise").onchange = () => (chosen() < exercises.length ? showPlan(exercises[chosen()]) : own(plan.begin, plan.edits));
     $("next-exercise").onclick = () => {
         $("exercise").value = chosen() < exercises.length - 1 ? chosen() + 1 : 0;
         $("exercise").onchange();
     };
-    $("begin").onchange = () => own({ begin: $("begin").value, edits: [] });
+    $("begin").onchange = () => own($("begin").value, []);
     $("edit").onchange = showBoxes;
     $("add").onclick = add;
+    $("undo").onclick = () => (own(plan.begin, plan.edits.slice(0, -1)), $("add").focus());
     $("see").onclick = see;
     $("open-it").onclick = () => open("your stream", made(plan, book, clips));
     $("the-words").onclick = () => (($("words").open = true), $("words").querySelector("summary").focus());

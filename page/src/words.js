@@ -52,7 +52,9 @@ const ADVICE = {
     6: "Part of it has another format than its beginning, and is not spoken (6). Have each clip made again, as a file of its own.",
     7: "Its last frame is cut off, and is not spoken (7). Have the file sent again.",
 };
-const MISSING = { front: ["In front of its first frame", "the beginning"], between: ["Between its frames", "something"], behind: ["Behind its last frame", "the end"] };
+const MISSING = {
+    front: ["In front of its first frame", "the beginning"], between: ["Between its frames", "something"], behind: ["Behind its last frame", "the end"],
+};
 
 function outside(where, bytes, frames) {
     const [place, part] = MISSING[where], passed = `${place} ${counted(bytes, "byte")} were passed over.`;
