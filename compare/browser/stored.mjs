@@ -6,7 +6,7 @@ import { joined, ringOut } from "../../page/src/ring.js";
 import { Decoder } from "../../page/src/tag.js";
 import { made } from "../../page/src/exercises.js";
 import { Listing } from "../../page/src/listing.js";
-import { MODES, REASONS } from "../../page/src/words.js";
+import { MODES, REASONS, verdict } from "../../page/src/words.js";
 import { answersOf } from "./answers.mjs";
 import { wavHeader } from "../../page/src/wav.js";
 
@@ -105,6 +105,25 @@ export function compareDamaged(count, module, many) {
     for (const { name, stream } of all) fs.writeFileSync(`${folder}/${name}`, stream);
     const proved = execFileSync("../../../run", ["replay", ...all.map(({ name }) => name)], { cwd: folder, maxBuffer: 2 ** 28 }).toString();
     count.lines(all.flatMap(({ name, stream }) => [name, ...answersOf({ Decoder, Listing }, module, stream)]).join("\n") + "\n", proved, "the lines of the damaged streams");
+}
+
+// Every byte is counted once: as sound, header, refused header, or passed over. The verdicts of some streams, by hand: a
+// byte cut out, a frame's FF damaged, half of the clip made zeros.
+export function compareBytes(count, module) {
+    const heard = (stream) => {
+        const listing = new Listing(new Decoder(module, stream), stream, 0);
+        while (listing.step());
+        const { calls, tally, format, map } = listing;
+        return { calls, tally, format, stream, bytes: map.bytes };
+    };
+    for (const { name, stream } of streams) {
+        const { sound, headers, refused, passed } = heard(stream).bytes, parts = [sound, headers, ...Object.values(refused), ...Object.values(passed)];
+        count.holds(parts.every((part) => part >= 0) && parts.reduce((sum, part) => sum + part, 0) === stream.length, `${name}: its bytes, each once`);
+    }
+    const { lavender } = clips, without = (at) => joined([lavender.slice(0, at), lavender.slice(at + 1)]), zeroed = lavender.slice();
+    zeroed.fill(0, lavender.length / 2);
+    const said = { whole: [lavender, lavender.slice(0, 77 * 156)], partly: [without(500), lavender.with(312, 127), lavender.with(0, 127), zeroed, lavender.slice(0, -1)] };
+    for (const [kind, list] of Object.entries(said)) list.forEach((stream, i) => count.same(verdict(heard(stream)).kind, kind, `the verdict of ${kind} ${i + 1}`));
 }
 
 // Any part of the sound is the same whether it was reached from the beginning or from a copy of the decoder.

@@ -8,7 +8,7 @@ export function fields(stream, at) {
     const [second, third, fourth] = [1, 2, 3].map((next) => stream[at + next] ?? 0);
     return {
         version: (second >> 3) & 3, layer: (second >> 1) & 3, checked: !(second & 1), bitRate: third >> 4, mode: fourth >> 6,
-        rate: RATES[(third >> 2) & 3], kbps: KBPS[(third >> 4) - 1], padding: (third >> 1) & 1,
+        rate: RATES[(third >> 2) & 3], kbps: KBPS[(third >> 4) - 1], padding: (third >> 1) & 1, cut: stream.length < at + 4,
     };
 }
 

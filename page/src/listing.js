@@ -36,12 +36,12 @@ class Outline {
     }
 }
 
-// The stream's bytes in columns; how many became sound, headers and refused headers; and how many stand in no frame: in
-// front of the first one, between two, behind the last.
+// The stream's bytes in columns; how many became sound, headers and refused headers; how many stand in no frame: in front
+// of the first one, between two, behind the last; and how many frames begin inside another.
 class ByteMap {
     constructor(length) {
         Object.assign(this, { length, columns: new Uint8Array(Math.min(COLUMNS, length)), refused: 0, frameEnd: 0 });
-        this.bytes = { sound: 0, headers: 0, refused: [], passed: [], front: 0, between: 0, behind: 0 };
+        this.bytes = { sound: 0, headers: 0, refused: [], passed: [], front: 0, between: 0, behind: 0, inside: 0 };
     }
 
     paint(first, end, kind) {
@@ -52,9 +52,10 @@ class ByteMap {
         return Math.max(0, last - first);
     }
 
-    frame(header, size) {
+    frame(header, end) {
         this.bytes[this.frameEnd ? "between" : "front"] += Math.max(0, header - this.frameEnd);
-        this.frameEnd = Math.max(this.frameEnd, header + size);
+        this.bytes.inside += header < this.frameEnd;
+        this.frameEnd = Math.max(this.frameEnd, end);
     }
 
     // Bytes that were passed over, behind a header refused with `number`; 0 where it was none.
@@ -72,7 +73,7 @@ class ByteMap {
         } else if (header >= 0) {
             bytes.refused[number] = (bytes.refused[number] ?? 0) + this.paint(header, end, KINDS.refused + number);
         }
-        if (number === 0 || number === 6) this.frame(header, frameBytes(fields(calls.stream, header)));
+        if (number === 0 || number === 6) this.frame(header, Math.max(end, header + frameBytes(fields(calls.stream, header))));
         if (number === 7) this.frame(header, length);
         if (number === 7) this.pass(end, length, 7);
         if (!goesOn(number)) bytes.behind = Math.max(0, length - this.frameEnd);

@@ -28,16 +28,18 @@ export const formatWords = (format) => Object.values(VALUES).map((words) => word
 export function headerWords(stream, at) {
     const found = fields(stream, at);
     if (found.version !== 3 || found.layer !== 2) return `${VERSIONS[found.version]}, ${LAYERS[found.layer]}`;
-    return formatWords(found) + (found.checked ? ", a check word" : "");
+    return formatWords(found) + (found.checked ? ", a check word" : "") + missing(found);
 }
+
+const missing = ({ cut }) => (cut ? " (cut off: what is missing counts as 0)" : "");
 
 // What of a header made the decoder refuse it. It reads the fields in their order, and stops at the first that is wrong.
 export function why({ calls, stream, format }, row) {
     const number = calls.number[row], found = fields(stream, calls.header(row));
     if (number === 3) return headerWords(stream, calls.header(row));
-    if (number === 4 || number === 5) return VALUES[number === 4 ? "kbps" : "rate"](found);
+    if (number === 4 || number === 5) return VALUES[number === 4 ? "kbps" : "rate"](found) + missing(found);
     const parted = Object.keys(VALUES).filter((name) => found[name] !== format[name]), told = (from) => parted.map((name) => VALUES[name](from)).join(", ");
-    return `${told(found)}, the clip began with ${parted.join() === "kbps" ? format.kbps : told(format)}`;
+    return `${told(found)}${missing(found)}, the clip began with ${parted.join() === "kbps" ? format.kbps : told(format)}`;
 }
 
 function refusal(clip, number, { count, first, alike }) {
@@ -72,10 +74,11 @@ export function verdict(clip) {
     if (bytes.front + bytes.between + bytes.behind > 0.9 * stream.length) {
         return { kind: "none", judgement: "This is hardly a clip.", advice: [fileWords(clip), "What plays of it may be noise."], line };
     }
-    const missing = places.map((where) => outside(where, bytes[where], Math.floor(bytes[where] / size)));
-    const advice = [...numbers.filter((number) => ADVICE[number]).map((number) => ADVICE[number]), ...missing];
-    if (numbers.some((number) => ADVICE[number]) || places.some((where) => where === "between" || bytes[where] >= size)) {
-        return { kind: "partly", judgement: "Do not use this clip yet: part of the file was not played.", advice, line };
+    const inside = `${counted(bytes.inside, "header")} stood inside another frame. Bytes may be missing there. Have the file sent again.`;
+    const troubles = [...numbers.filter((number) => ADVICE[number]).map((number) => ADVICE[number]), ...(bytes.inside ? [inside] : [])];
+    const advice = [...troubles, ...places.map((where) => outside(where, bytes[where], Math.floor(bytes[where] / size)))];
+    if (troubles.length || places.some((where) => where === "between" || bytes[where] >= size)) {
+        return { kind: "partly", judgement: "Do not use this clip yet: something is wrong with the file.", advice, line };
     }
     return { kind: "whole", judgement: "Every frame was played.", advice: [...advice, "Now listen: the page cannot tell whether the words are right."], line };
 }
