@@ -330,11 +330,24 @@ async function compareReadings(count, browser) {
     await page.close();
 }
 
+// Two pictures as README has them: the page as it opens, and ring-out.
+async function pictures(page) {
+    await page.size(960, 900);
+    for (const view of ["listen", "ring-out"]) {
+        await page.view(view);
+        await sleep(200);
+        await page.keep(`readme-${view}`);
+    }
+    await page.size(1180, 900);
+    await page.view("listen");
+}
+
 export async function drive(count, browser) {
     const page = new Page(browser), opened = path.resolve("page/listen.html");
     try {
         await page.open(opened);
         console.log((await page.send("Browser.getVersion")).product);
+        await pictures(page);
         await count.part("browser beside the Rust's stored answers", () => compareStreams(count, page));
         const parts = { "built-in clips": compareClips, sound: compareSound, bytes: compareBytes, incident: compareIncident, "ring-out in the browser": compareRing, exercises: compareTries,
             "a stream of one's own": compareOwn, "files that are no clip": compareOthers, "a dropped file": compareDrop, "the longest streams": compareLong, "for everybody": compareLooks, "files saved": compareFiles };
