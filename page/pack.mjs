@@ -51,6 +51,6 @@ const parts = {
     WORKER: script("worker.js"), PAGE: script("main.js"),
 };
 const page = source("page.html").replace(/\/\*([A-Z]+)\*\//g, (_, name) => parts[name] ?? refuse(`nothing stands for ${name}`));
-if (/\bsrc=|https?:\/\/|@import|url\(/.test(page)) refuse("the page asks for something from outside");
+if (/\bsrc=|href=(?!"data:)|https?:\/\/|@import|url\(/.test(page)) refuse("the page asks for something from outside");
 fs.writeFileSync(out, page);
 console.log(`${path.relative(house, out)}: ${page.length} characters, the decoder's ${fs.statSync(wasm).size} bytes among them`);

@@ -2,8 +2,7 @@
 import { $, chip, fill, make } from "./dom.js";
 import { REASONS, counted, grouped, headerWords, hexOf, seconds, times, why } from "./words.js";
 
-const ROWS = 100, RUNS = 40; // shown at once
-const HEX = 48;
+const ROWS = 100, RUNS = 40, HEX = 48; // rows of a run, runs, and bytes that are shown at once
 let clip, calls, row, tell;
 
 export function showBytes(next, told) {

@@ -44,10 +44,7 @@ export async function show(name, stream) {
     const { kind, judgement, advice, line } = verdict(clip);
     say(kind, judgement, advice, `${line}.`, true);
     showSound();
-    showBytes(clip, (chosen) => {
-        row = chosen;
-        draw();
-    });
+    showBytes(clip, draw);
     await showBeside(clip, listed);
 }
 
@@ -83,7 +80,9 @@ function marks({ calls }) {
     return [...found].slice(0, 500);
 }
 
-function draw() {
+// Draws the wave and the map, with a call that is chosen.
+function draw(chosen = row) {
+    row = chosen;
     if (!clip || $("bytes").hidden || $("listen").hidden) return;
     if (clip.format.frames) drawWave(clip, clip.marks, clip.calls.isFrame(row) ? clip.calls.framesBefore(row) : -1);
     drawMap(clip, row);

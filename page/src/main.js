@@ -12,7 +12,7 @@ import { STREAM } from "./tag.js";
 
 const VIEWS = ["listen", "incident", "ring-out", "try-it"];
 const streams = {}, sentences = { own: "A stream of your own." };
-let drawings = [], again = () => {};
+let drawings = [], asked = 0, again = () => {};
 
 function view(name) {
     stop();
@@ -36,6 +36,7 @@ function tabKeys(event) {
 
 // Shows a stream by its key in the list of clips.
 function open(key, name = key) {
+    asked++;
     view("listen");
     $("pick").value = key;
     $("shows").textContent = sentences[key];
@@ -51,12 +52,13 @@ function openOwn(name, stream) {
     return open("own", name).then(() => $("judgement").focus());
 }
 
+// A file, unless something else was asked for while it was fetched.
 async function openFile(file) {
-    if (!file) return;
+    const mine = ++asked;
     view("listen");
     if (file.size > STREAM) return tooLong(file.name, file.size);
     const stream = await file.arrayBuffer().catch((problem) => trouble(`${file.name} cannot be read: ${problem.message}. Is it a folder?`));
-    if (stream) await openOwn(file.name, new Uint8Array(stream));
+    if (stream && mine === asked) await openOwn(file.name, new Uint8Array(stream));
 }
 
 function unpack() {
@@ -72,19 +74,20 @@ function startOpening() {
     let over = 0;
     const mark = (change) => document.body.classList.toggle("drop", (over = Math.max(0, over + change)) > 0);
     $("pick").onchange = () => open($("pick").value, $("pick").selectedOptions[0].dataset.name);
-    $("file").onchange = () => openFile($("file").files[0]).then(() => ($("file").value = ""));
+    $("file").onchange = () => $("file").files[0] && openFile($("file").files[0]).then(() => ($("file").value = ""));
     addEventListener("dragenter", () => mark(1));
     addEventListener("dragleave", () => mark(-1));
     addEventListener("dragover", (event) => event.preventDefault());
     addEventListener("drop", (event) => {
         event.preventDefault();
         mark(-over);
-        openFile(event.dataTransfer.files[0]);
+        if (event.dataTransfer.files[0]) openFile(event.dataTransfer.files[0]);
+        else trouble("What was dropped is no file.");
     });
 }
 
 async function start() {
-    const asked = location.hash.slice(1), redraw = () => drawings.forEach((draw) => draw());
+    const wanted = location.hash.slice(1), redraw = () => drawings.forEach((draw) => draw());
     unpack();
     await startWorker();
     const ring = startRingOut(streams);
@@ -98,8 +101,11 @@ async function start() {
     matchMedia("(prefers-color-scheme: dark)").onchange = redraw;
     await open("incident");
     await Promise.all([startIncident(streams), ring.count()]);
-    if (VIEWS.includes(asked)) view(asked);
+    if (VIEWS.includes(wanted)) view(wanted);
     document.documentElement.dataset.ready = "true";
 }
 
-start().catch((problem) => trouble(`This browser cannot run the decoder: ${problem.message}.`));
+start().catch((problem) => {
+    $("judgement").textContent = "The decoder did not start.";
+    trouble(`This browser cannot run the page: ${problem.message}.`);
+});

@@ -36,9 +36,7 @@ function headline({ fits, ringing }) {
     return `The first clip rings on up to sample ${ringing.last}, with up to ${ringing.largest.toPrecision(2)} of full scale.`;
 }
 
-function draw() {
-    if (ring && !$("ring-out").hidden) drawRing(ring);
-}
+const draw = () => ring && !$("ring-out").hidden && drawRing(ring);
 
 // Counts, unless the slider was moved on in the meantime.
 async function count() {

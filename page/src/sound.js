@@ -70,20 +70,14 @@ function schedule(me, samples, { rate, one }, at, last) {
 
 // A button that plays and stops. `start` gives the sound, where it begins, and what is to be told.
 export function playButton(button, start) {
-    const name = button.textContent;
-    const shown = (on) => {
-        button.textContent = on ? "Stop" : name;
-        button.classList.toggle("on", on);
-    };
-    button.classList.add("play");
+    const name = button.textContent, kind = button.className;
+    const shown = (on) => Object.assign(button, { textContent: on ? "Stop" : name, className: `${kind} play${on ? " on" : ""}` });
+    shown(false);
     button.onclick = () => {
         if (isPlaying(button)) return stop();
         const { sound, from = 0, step = () => {}, ended = () => {} } = start();
         try {
-            play(button, sound, from, step, (over) => {
-                shown(false);
-                ended(over);
-            });
+            play(button, sound, from, step, (over) => (shown(false), ended(over)));
             shown(true);
         } catch (problem) {
             trouble(`This browser plays no sound: ${problem.message}.`);

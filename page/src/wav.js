@@ -4,12 +4,8 @@ import { OUTPUT } from "./tag.js";
 export const MOST_FRAMES = Math.floor((2 ** 32 - 1 - 36) / (2 * OUTPUT)); // a length in the header has 32 bits
 
 export function wavHeader(frames, rate) {
-    const header = new DataView(new ArrayBuffer(44)), size = frames * 2 * OUTPUT;
-    const letters = (at, text) => [...text].forEach((letter, i) => header.setUint8(at + i, letter.charCodeAt(0)));
-    const number = (at, value) => header.setUint32(at, value, true);
-    const small = (at, value) => header.setUint16(at, value, true);
-    letters(0, "RIFF"), number(4, 36 + size), letters(8, "WAVE"), letters(12, "fmt "), number(16, 16);
-    small(20, 1), small(22, 2), number(24, rate), number(28, 4 * rate), small(32, 4), small(34, 16);
-    letters(36, "data"), number(40, size);
-    return header.buffer;
+    const size = frames * 2 * OUTPUT, letters = (text) => [...text].reduceRight((word, letter) => 256 * word + letter.charCodeAt(0), 0);
+    const pair = (low, high) => low + 65536 * high; // two numbers of 16 bits: whole samples on 2 channels; 4 bytes, of 16 bits each
+    const words = [letters("RIFF"), 36 + size, letters("WAVE"), letters("fmt "), 16, pair(1, 2), rate, 4 * rate, pair(4, 16), letters("data"), size];
+    return Uint32Array.from(words).buffer;
 }
