@@ -9,7 +9,7 @@ import { sleep } from "./chromium.mjs";
 
 const VIEWS = ["listen", "incident", "ring-out", "try-it"];
 const MADE = path.resolve("target/page/made");
-const AWAKE = 300; // milliseconds that a page may be busy at most, on a machine that does other things too
+const AWAKE = 500; // milliseconds that a page may be busy at most, on a machine that does other things too
 
 function made(name, bytes) {
     fs.mkdirSync(MADE, { recursive: true });
@@ -105,7 +105,7 @@ async function compareSound(count, page) {
 async function compareBytes(count, page) {
     await page.pick("incident");
     count.holds((await page.text("chosen")).includes("refused 6 at 30995"), "the first refusal is chosen");
-    count.holds((await page.text("hex")).startsWith("From byte 30,992: header FF FD 20 C4 neither 65"), `the bytes of the first refusal: ${await page.text("hex")}`);
+    count.holds((await page.text("hex")).startsWith("From byte 30,992: header FF FD 20 C4 behind it 65"), `the bytes of the first refusal: ${await page.text("hex")}`);
     count.same(await page.text("legend"), "sound, 30,342 bytesits headers, 596 bytespassed over, 54 bytesheaders refused with 6, 616 bytespassed over behind 6, 23,408 bytes", "the legend");
     const steps = [["#previous", "frame 148 at 30788"], ["#next", "refused 6 at 30995"], ["#next", "refused 6 at 31151"], ["#refusal", "refused 6 at 30995"]];
     for (const [button, words] of steps) {
@@ -235,9 +235,9 @@ async function compareOthers(count, page) {
         "sound.wav": [stored.wavOf(stored.clips.citrus.slice(0, 416)), "This is a WAV file: its sound is decoded already."],
         "list.txt": [text("Contains linalool, geraniol and coumarin.\n"), "This is text."],
         "picture.png": [Buffer.concat([text("\x89PNG\r\n\x1a\n"), Buffer.alloc(50)]), "This is a picture (PNG)."],
-        "one.mp2": [Buffer.from([255]), "Hardly anything in it is Layer II."],
+        "one.mp2": [Buffer.from([255]), "Hardly anything in it can be played."],
         "cut.mp2": [stored.clips.citrus.slice(0, 100), "A header was read, but the frame behind it is cut off (7)."],
-        "zeros.mp2": [Buffer.alloc(5000), "Hardly anything in it is Layer II."],
+        "zeros.mp2": [Buffer.alloc(5000), "Hardly anything in it can be played."],
     };
     for (const [name, [bytes, words]] of Object.entries(files)) {
         await page.give(made(name, bytes));

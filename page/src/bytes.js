@@ -87,12 +87,13 @@ function showRuns(first, framesBefore) {
 function hexWords(from, header) {
     const { stream } = clip, frame = calls.isFrame(row), body = header < 0 ? from : header + 4;
     const data = frame ? calls.data(row) : body, end = frame ? calls.end(row) : body;
-    const parts = [["b", "header", from, body], ["span", "check word", body, data], ["em", "sound", data, end], ["span", "neither", end, Infinity]];
+    const parts = [["b", "header", from, body], ["span", "check word", body, data], ["em", "sound", data, end], ["span", "behind it", end, Infinity]];
     const shown = parts.flatMap(([name, words, first, last]) => {
         const bytes = stream.subarray(Math.min(first, from + HEX), Math.min(last, from + HEX));
         return bytes.length ? [`${words} `, make(name, {}, hexOf(bytes)), " "] : [];
     });
-    return stream.length ? [`From byte ${grouped(from)}: `, ...shown, from + HEX < stream.length ? "…" : ""] : ["No bytes."];
+    if (header < 0 && calls.begins(row) >= stream.length) return ["No byte is left."];
+    return [`From byte ${grouped(from)}: `, ...shown, from + HEX < stream.length ? "…" : ""];
 }
 
 // Shows a call. It is told to a screen reader where the person asked for it.

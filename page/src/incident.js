@@ -23,11 +23,11 @@ function offer(id, rate, sounds) {
 }
 
 export async function startIncident({ incident, lavender }) {
-    const both = await listed("incident", "incident", incident, 0), alone = await listed("lavender", "lavender", lavender, 0);
+    const both = await listed("incident", "incident", incident, 0, ask), alone = await listed("lavender", "lavender", lavender, 0, ask);
     const rate = both.format.rate, said = { sixes: counted(both.tally[6].count, "time") }, sounds = {};
-    for (const [name, { key, format: { frames } }] of Object.entries({ citrus: both, lavender: alone })) {
+    for (const [name, { key, listing, format: { frames } }] of Object.entries({ citrus: both, lavender: alone })) {
         said[name] = `${counted(frames, "frame")}, ${seconds(frames, rate)}`;
-        sounds[name] = await ask("frames", { key, first: 0, count: frames });
+        sounds[name] = await ask("frames", { key, listing, first: 0, count: frames });
     }
     document.querySelectorAll("[data-said]").forEach((place) => (place.textContent = said[place.dataset.said]));
     for (const id of ["old", "ours", "mended"]) offer(id, rate, sounds);

@@ -11,11 +11,12 @@ import { listText, showBytes } from "./bytes.js";
 let clip = null, row = 0, turn = 0;
 
 // Lists a stream. Undefined where it was cancelled.
-export async function listed(key, name, stream, choices) {
-    const found = await askLong("list", { key, stream, choices });
-    return found && { ...found, key, name, stream, choices, calls: new Calls(stream, found.columns, found.format) };
+export async function listed(key, name, stream, choices, asks = askLong) {
+    const found = await asks("list", { key, stream, choices });
+    return found && { ...found, key, listing: found.id, name, stream, choices, calls: new Calls(stream, found.columns, found.format) };
 }
 
+const MARKS = 500; // places in the wave where refusals are marked
 const SIGNS = { whole: "✔", partly: "▲", none: "✖" };
 
 // The verdict's words, and whether the rest of the view belongs to them.
@@ -36,10 +37,11 @@ export async function show(name, stream) {
     $("of").textContent = `${name}, ${counted(stream.length, "byte")}`;
     $("verdict").setAttribute("aria-busy", "true");
     say("", "It is being read …", [], "", false);
-    const next = await listed("listen", name, stream, chosenReading());
+    const failed = (problem) => mine === turn && (trouble(`${name} cannot be shown: ${problem.message}.`), undefined);
+    const next = await listed("listen", name, stream, chosenReading()).catch(failed);
     if (mine !== turn) return;
     $("verdict").setAttribute("aria-busy", "false");
-    if (!next) return say("none", "It was not read to its end.", ["You cancelled it. Choose a clip, or open a file."], "", false);
+    if (!next) return say("none", "It was not read to its end.", ["Choose a clip, or open a file."], "", false);
     clip = { ...next, marks: marks(next) };
     const { kind, judgement, advice, line } = verdict(clip);
     say(kind, judgement, advice, `${line}.`, true);
@@ -71,13 +73,13 @@ function tell(frame) {
 }
 
 // Where in the sound calls were refused: the frames before, and the number.
-function marks({ calls }) {
-    const found = new Map();
-    for (let at = 0, before = 0; at < calls.count; at++) {
+function marks({ calls, format }) {
+    const found = [], width = format.frames / MARKS;
+    for (let at = 0, before = 0; format.frames && at < calls.count; at++) {
         if (calls.isFrame(at)) before++;
-        else if (calls.number[at] !== 1 && !found.has(before)) found.set(before, calls.number[at]);
+        else if (calls.number[at] !== 1) found[Math.floor(before / width)] ??= [before, calls.number[at]];
     }
-    return [...found].slice(0, 500);
+    return found.filter(Boolean);
 }
 
 // Draws the wave and the map, with a call that is chosen.
@@ -89,20 +91,26 @@ function draw(chosen = row) {
 }
 
 export function startListen() {
-    const named = (ending) => clip.name.replace(/\.[^.]*$/, "") + ending, place = () => Number($("place").value);
-    const piece = (first, count) => ask("frames", { key: "listen", first, count });
+    const named = (ending) => clip.name.replace(/\.[a-z0-9]{1,4}$/i, "") + ending, place = () => Number($("place").value);
     const playFrom = (frame) => {
         stop();
         tell(frame);
         $("play").click();
     };
     const ended = (over) => tell(over ? 0 : place());
-    playButton($("play"), () => ({ sound: { ...clip.format, one: 32768, piece }, from: place(), step: tell, ended }));
+    playButton($("play"), () => {
+        const { key, listing, format } = clip;
+        return { sound: { ...format, one: 32768, piece: (first, count) => ask("frames", { key, listing, first, count }) }, from: place(), step: tell, ended };
+    });
     $("place").oninput = () => (isPlaying($("play")) ? playFrom(place()) : tell(place()));
     $("wave").onclick = (event) => playFrom(Math.floor((event.offsetX / event.target.clientWidth) * clip.format.frames));
     const failed = (problem) => trouble(`No file was saved: ${problem?.message ?? "it was cancelled"}.`);
-    $("save-wav").onclick = () => askLong("wav", { key: "listen" }).then((file) => (file ? save(file, named(".wav")) : failed())).catch(failed);
-    $("save-list").onclick = () => listText(clip).then((file) => save(file, named(".txt"))).catch(failed);
+    const saves = (ending, makes) => () => {
+        const name = named(ending); // of the clip that is saved, whatever is shown when the file is made
+        makes(clip).then((file) => (file ? save(file, name) : failed())).catch(failed);
+    };
+    $("save-wav").onclick = saves(".wav", ({ key, listing }) => askLong("wav", { key, listing }));
+    $("save-list").onclick = saves(".txt", listText);
     $("cancel").onclick = cancel;
     return draw;
 }
@@ -112,6 +120,8 @@ export function tooLong(name, length) {
     turn++;
     stop();
     cancel();
+    trouble("");
+    $("verdict").setAttribute("aria-busy", "false");
     $("of").textContent = `${name}, ${counted(length, "byte")}`;
     say("none", "The file is too long (8).", ["A stream has 16,777,216 bytes at most. This one was not read."], "", false);
 }

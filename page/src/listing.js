@@ -37,11 +37,12 @@ class Outline {
 }
 
 // The stream's bytes in columns; how many became sound, headers and refused headers; how many stand in no frame: in front
-// of the first one, between two, behind the last; and how many frames begin inside another.
+// of the first one, between two, behind the last. And how many frames begin inside another, how many read past their own
+// end, how many begin where the last one ends, and whether one more has begun at the stream's end.
 class ByteMap {
     constructor(length) {
         Object.assign(this, { length, columns: new Uint8Array(Math.min(COLUMNS, length)), refused: 0, frameEnd: 0 });
-        this.bytes = { sound: 0, headers: 0, refused: [], passed: [], front: 0, between: 0, behind: 0, inside: 0 };
+        this.bytes = { sound: 0, headers: 0, refused: [], passed: [], front: 0, between: 0, behind: 0, inside: 0, over: 0, next: 0, begun: false };
     }
 
     paint(first, end, kind) {
@@ -55,6 +56,7 @@ class ByteMap {
     frame(header, end) {
         this.bytes[this.frameEnd ? "between" : "front"] += Math.max(0, header - this.frameEnd);
         this.bytes.inside += header < this.frameEnd;
+        this.bytes.next += header === this.frameEnd;
         this.frameEnd = Math.max(this.frameEnd, end);
     }
 
@@ -73,11 +75,17 @@ class ByteMap {
         } else if (header >= 0) {
             bytes.refused[number] = (bytes.refused[number] ?? 0) + this.paint(header, end, KINDS.refused + number);
         }
-        if (number === 0 || number === 6) this.frame(header, Math.max(end, header + frameBytes(fields(calls.stream, header))));
+        if (number === 0 || number === 6) {
+            const last = header + frameBytes(fields(calls.stream, header));
+            bytes.over += end > last;
+            this.frame(header, Math.max(end, last));
+        }
         if (number === 7) this.frame(header, length);
         if (number === 7) this.pass(end, length, 7);
-        if (!goesOn(number)) bytes.behind = Math.max(0, length - this.frameEnd);
         this.refused = number;
+        if (goesOn(number)) return;
+        bytes.behind = Math.max(0, length - this.frameEnd);
+        bytes.begun = bytes.behind > 0 && bytes.behind < 6 && calls.stream[this.frameEnd] === 255;
     }
 }
 

@@ -20,6 +20,7 @@ export function showReadings(pick, again) {
 // Two readings side by side: the plain one's verdict beside that of the chosen one.
 export async function showBeside({ choices, name, stream }, listed) {
     $("beside").hidden = !choices;
+    fill($("beside"));
     const plain = choices && (await listed("plain", name, stream, 0));
     if (plain) fill($("beside"), make("strong", {}, "Read plainly: "), `${verdict(plain).line}.`);
 }

@@ -7,7 +7,7 @@ import { counted, formatWords, grouped } from "./words.js";
 import { OUTPUT } from "./tag.js";
 import { RINGS } from "./ring.js";
 
-let clips, ring = null, turn = 0;
+let clips, ring = null, turn = 0, last = Promise.resolve();
 
 // What was counted, in words.
 function facts({ frames, ringing, later, formats }) {
@@ -42,7 +42,10 @@ const draw = () => ring && !$("ring-out").hidden && drawRing(ring);
 async function count() {
     const mine = ++turn, [first, second] = ["first", "second"].map((id) => clips[$(id).value].stream);
     stop();
-    const found = await ask("ring", { first, second, frames: Number($("frames").value) });
+    await last; // one count at a time: those in between are left out
+    if (mine !== turn) return;
+    last = ask("ring", { first, second, frames: Number($("frames").value) });
+    const found = await last;
     if (mine !== turn) return;
     ring = found;
     Object.assign($("frames"), { max: ring.total, value: ring.frames, ariaValueText: `${ring.frames} of ${ring.total}` });

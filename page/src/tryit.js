@@ -1,5 +1,6 @@
 // "Try it": a stream, what is done to it, a guess, and the decoder's answer.
 import { $, chip, fill, make, option, options } from "./dom.js";
+import { ask } from "./work.js";
 import { listed } from "./listen.js";
 import { EDITS, editWords, made, steps } from "./exercises.js";
 import { REASONS, counted, grouped, hexOf, verdict } from "./words.js";
@@ -61,7 +62,8 @@ function add() {
 async function see() {
     const guess = document.querySelector("#guesses input:checked")?.value;
     if (guess === undefined) return fill($("answer"), "Choose an answer first."), document.querySelector("#guesses input").focus();
-    const clip = await listed("try", "try", made(plan, book, clips), 0), { calls, format } = clip;
+    const mine = plan, clip = await listed("try", "try", made(plan, book, clips), 0, ask), { calls, format } = clip;
+    if (mine !== plan) return;
     const row = calls.number.findIndex((number) => number !== 0), number = calls.number[row], { line } = verdict(clip);
     const answer = plan.asks === "frames" ? format.frames : number, right = Number(guess) === answer;
     const lines = Array.from({ length: Math.min(CALLS, calls.count) }, (_, at) => calls.text(at, calls.framesBefore(at)));

@@ -48,7 +48,7 @@ function refusal(clip, number, { count, first, alike }) {
 }
 
 const ADVICE = {
-    3: "Bytes in it look like a header, but are none of Layer II (3). Tell the maker of this clip.",
+    3: "Bytes in it look like a header, but are none of MPEG-1 Layer II (3). Tell the maker of this clip.",
     4: "A header in it has a bit rate that is none (4). Tell the maker of this clip.",
     5: "A header in it has a sample rate that is none (5). Tell the maker of this clip.",
     6: "Part of it has another format than its beginning, and is not spoken (6). Have each clip made again, as a file of its own.",
@@ -58,8 +58,15 @@ const MISSING = {
     front: ["In front of its first frame", "the beginning"], between: ["Between its frames", "something"], behind: ["Behind its last frame", "the end"],
 };
 
+// What no number says, and the places of headers do.
+const ODD = {
+    inside: (count) => `${counted(count, "header")} stood inside another frame. Bytes may be missing there. Have the file sent again.`,
+    over: (count) => `${counted(count, "frame")} read on past the frame's own end. Bytes may be missing there. Have the file sent again.`,
+    begun: () => "Behind its last frame another one begins, and is cut off. Have the file sent again.",
+};
+
 function outside(where, bytes, frames) {
-    const [place, part] = MISSING[where], passed = `${place} ${counted(bytes, "byte")} were passed over.`;
+    const [place, part] = MISSING[where], passed = `${place} ${counted(bytes, "byte")} ${bytes === 1 ? "was" : "were"} passed over.`;
     return frames ? `${passed} That is room for ${counted(frames, "frame")}: ${part} may be missing. Have the file sent again.` : passed;
 }
 
@@ -71,11 +78,11 @@ export function verdict(clip) {
     const line = [sound, ...refused, `ended with ${last}: ${REASONS[last]}`].join("; ");
     if (!frames) return { kind: "none", judgement: "Nothing here can be played.", advice: [fileWords(clip)], line };
     const places = Object.keys(MISSING).filter((where) => bytes[where]), size = frameBytes(format);
-    if (bytes.front + bytes.between + bytes.behind > 0.9 * stream.length) {
+    if (bytes.next < 2 && bytes.front + bytes.between + bytes.behind > 0.9 * stream.length) {
         return { kind: "none", judgement: "This is hardly a clip.", advice: [fileWords(clip), "What plays of it may be noise."], line };
     }
-    const inside = `${counted(bytes.inside, "header")} stood inside another frame. Bytes may be missing there. Have the file sent again.`;
-    const troubles = [...numbers.filter((number) => ADVICE[number]).map((number) => ADVICE[number]), ...(bytes.inside ? [inside] : [])];
+    const odd = Object.keys(ODD).filter((name) => bytes[name]).map((name) => ODD[name](bytes[name]));
+    const troubles = [...numbers.filter((number) => ADVICE[number]).map((number) => ADVICE[number]), ...odd];
     const advice = [...troubles, ...places.map((where) => outside(where, bytes[where], Math.floor(bytes[where] / size)))];
     if (troubles.length || places.some((where) => where === "between" || bytes[where] >= size)) {
         return { kind: "partly", judgement: "Do not use this clip yet: something is wrong with the file.", advice, line };
@@ -98,12 +105,14 @@ const FILES = [
     [starts("%PDF"), "This is a PDF document."], [starts("PK\x03\x04"), "This is a ZIP file."],
     [starts("\x00\x00\x01"), "This looks like MPEG video. Its sound has to be taken out first."],
     [isText, "This is text."],
-    [() => true, "Hardly anything in it is Layer II."],
+    [() => true, "Hardly anything in it can be played."],
 ];
 
 // What a file is that has no frame, or hardly one.
 function fileWords({ stream, tally, format }) {
     if (tally[7] && !format.frames) return "A header was read, but the frame behind it is cut off (7). Have the file sent again.";
+    const layerII = stream[0] === 255 && (stream[1] & 254) === 252;
+    if (tally[4] && layerII) return "This looks like Layer II in free format, or with a bit rate that is none (4). Ask the maker for a clip with a bit rate.";
     const [, words] = FILES.find(([is]) => is(stream));
     return `${words} A clip for the tag is MPEG-1 Layer II, a file whose name ends in .mp2. Ask the maker for that file.`;
 }

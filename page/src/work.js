@@ -2,7 +2,8 @@
 import { $ } from "./dom.js";
 
 const waiting = new Map();
-let worker, asked = 0, shown = 0;
+const long = new Set(); // jobs whose progress is shown
+let worker, asked = 0;
 
 export function startWorker() {
     worker = new Worker(URL.createObjectURL(new Blob([$("worker").textContent], { type: "text/javascript" })));
@@ -30,14 +31,15 @@ export async function askLong(job, words) {
         $("working").hidden = false;
         $("progress").value = share;
     });
-    shown = asking.id;
+    long.add(asking.id);
     try {
         return await asking;
     } catch (problem) {
         if (problem.message !== "cancelled") throw problem;
     } finally {
-        if (shown === asking.id) $("working").hidden = true;
+        long.delete(asking.id);
+        if (!long.size) $("working").hidden = true;
     }
 }
 
-export const cancel = () => worker.postMessage({ cancel: shown });
+export const cancel = () => long.forEach((id) => worker.postMessage({ cancel: id }));

@@ -21,6 +21,12 @@ async function paced(id, step, share) {
     }
 }
 
+// The listing of this number, and no other that has taken its place.
+function listingOf({ key, listing }) {
+    if (clips.get(key)?.id !== listing) throw new Error("another clip was opened");
+    return clips.get(key);
+}
+
 const jobs = {
     async begin({ bytes }) {
         module = await WebAssembly.compile(bytes);
@@ -29,18 +35,18 @@ const jobs = {
     async list({ id, key, stream, choices }) {
         const listing = new Listing(new Decoder(module, stream), stream, choices), { calls, map } = listing;
         await paced(id, () => listing.step(), () => listing.share);
-        clips.set(key, listing);
+        clips.set(key, Object.assign(listing, { id }));
         const columns = { number: Uint8Array.from(calls.number), position: Uint32Array.from(calls.position), bits: Uint32Array.from(calls.bits) };
         const wave = { values: Float32Array.from(listing.outline?.values ?? []), frames: listing.format.frames };
-        return { columns, wave, tally: listing.tally, format: listing.format, map: map.columns, bytes: map.bytes };
+        return { id, columns, wave, tally: listing.tally, format: listing.format, map: map.columns, bytes: map.bytes };
     },
 
-    frames({ key, first, count }) {
-        return clips.get(key).frames(first, count);
+    frames({ first, count, ...clip }) {
+        return listingOf(clip).frames(first, count);
     },
 
-    async wav({ id, key }) {
-        const listing = clips.get(key), { frames, rate } = listing.format, parts = [wavHeader(frames, frames ? rate : 44100)];
+    async wav({ id, ...clip }) {
+        const listing = listingOf(clip), { frames, rate } = listing.format, parts = [wavHeader(frames, frames ? rate : 44100)];
         if (frames > MOST_FRAMES) throw new Error(`a WAV file has room for ${MOST_FRAMES} frames, and this clip has ${frames}`);
         let next = 0;
         const step = () => {
