@@ -9,7 +9,7 @@ import { sleep } from "./chromium.mjs";
 
 const VIEWS = ["listen", "incident", "ring-out", "try-it"];
 const MADE = path.resolve("target/page/made");
-const AWAKE = 500; // milliseconds that a page may be busy at most, on a machine that does other things too
+const AWAKE = 1000; // milliseconds that the page may be busy at most; listing itself would take several seconds
 
 function made(name, bytes) {
     fs.mkdirSync(MADE, { recursive: true });
@@ -94,7 +94,7 @@ async function compareSound(count, page) {
     count.same(await page.text("clock"), "0.00 s of 3.89 s", "at its end the sound goes back to its beginning");
     await page.click("#wave", 0.75);
     await page.until("!head.hidden && parseFloat(clock.textContent) > 2.9");
-    count.holds(parseFloat(await page.run("head.style.left")) >= 75, "a line goes along the wave");
+    count.holds(parseFloat(await page.run("head.style.left")) > 74, "a line goes along the wave"); // frame 111 of 149
     await page.focus("place");
     await page.key("Home");
     await page.until(`${isOn("play")} && parseFloat(clock.textContent) < 2`);
