@@ -122,7 +122,7 @@ export function compareBytes(count, module) {
     }
     const { lavender } = clips, without = (at) => joined([lavender.slice(0, at), lavender.slice(at + 1)]), zeroed = lavender.slice();
     zeroed.fill(0, lavender.length / 2);
-    const said = { whole: [lavender, lavender.slice(0, 77 * 156)], partly: [without(500), lavender.with(312, 127), lavender.with(0, 127), zeroed, lavender.slice(0, -1)] };
+    const said = { whole: [lavender, lavender.slice(0, 77 * 156)], partly: [without(500), lavender.with(312, 127), lavender.with(0, 127), zeroed, lavender.slice(0, -1), clips.citrus.slice(10000)] };
     for (const [kind, list] of Object.entries(said)) list.forEach((stream, i) => count.same(verdict(heard(stream)).kind, kind, `the verdict of ${kind} ${i + 1}`));
 }
 

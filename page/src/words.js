@@ -84,7 +84,8 @@ export function verdict(clip) {
     const odd = Object.keys(ODD).filter((name) => bytes[name]).map((name) => ODD[name](bytes[name]));
     const troubles = [...numbers.filter((number) => ADVICE[number]).map((number) => ADVICE[number]), ...odd];
     const advice = [...troubles, ...places.map((where) => outside(where, bytes[where], Math.floor(bytes[where] / size)))];
-    if (troubles.length || places.some((where) => where === "between" || bytes[where] >= size)) {
+    const harmless = starts("ID3")(stream) || stream.subarray(0, bytes.front).every((byte) => !byte); // a title, or zeros
+    if (troubles.length || places.some((where) => where === "between" || (where === "front" && !harmless) || bytes[where] >= size)) {
         return { kind: "partly", judgement: "Do not use this clip yet: something is wrong with the file.", advice, line };
     }
     return { kind: "whole", judgement: "Every frame was played.", advice: [...advice, "Now listen: the page cannot tell whether the words are right."], line };
