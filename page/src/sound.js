@@ -32,7 +32,7 @@ function play(owner, sound, from, step, ended) {
     const me = { owner, sources: new Set(), ended }, begun = context.currentTime;
     playing = me;
     context.resume();
-    feed(me, sound, from).catch((problem) => trouble(`The sound stopped: ${problem.message}.`));
+    feed(me, sound, from).catch((problem) => playing === me && (stop(), trouble(`The sound stopped: ${problem.message}.`)));
     setTimeout(() => playing === me && context.currentTime === begun && trouble("The browser plays no sound. Is there a loudspeaker?"), 3000);
     const show = () => {
         if (playing !== me) return;
@@ -43,7 +43,7 @@ function play(owner, sound, from, step, ended) {
 }
 
 async function feed(me, sound, from) {
-    for (let next = from, at = 0; next < sound.frames; next += PIECE) {
+    for (let next = from, at = 0; playing === me && next < sound.frames; next += PIECE) {
         const samples = await sound.piece(next, Math.min(PIECE, sound.frames - next));
         if (playing !== me) return;
         at = Math.max(at, context.currentTime + 0.05);
