@@ -99,7 +99,10 @@ export class Browser {
     async close() {
         await Promise.race([this.send("Browser.close").catch(() => 0), sleep(2000)]);
         this.process.kill();
-        await sleep(300);
-        fs.rmSync(this.home, { recursive: true, force: true, maxRetries: 5 });
+        for (let tries = 0; tries < 10 && fs.existsSync(this.home); tries++) {
+            await sleep(300);
+            // It writes for a while after it has ended.
+            try { fs.rmSync(this.home, { recursive: true, force: true }); } catch { continue; }
+        }
     }
 }

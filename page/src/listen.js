@@ -37,6 +37,7 @@ export async function show(name, stream) {
     $("of").textContent = `${name}, ${counted(stream.length, "byte")}`;
     $("verdict").setAttribute("aria-busy", "true");
     say("", "It is being read …", [], "", false);
+    $("beside").hidden = true;
     const failed = (problem) => mine === turn && (trouble(`${name} cannot be shown: ${problem.message}.`), undefined);
     const next = await listed("listen", name, stream, chosenReading()).catch(failed);
     if (mine !== turn) return;

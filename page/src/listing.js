@@ -85,7 +85,8 @@ class ByteMap {
         this.refused = number;
         if (goesOn(number)) return;
         bytes.behind = Math.max(0, length - this.frameEnd);
-        bytes.begun = bytes.behind > 0 && bytes.behind < 6 && calls.stream[this.frameEnd] === 255;
+        const rest = calls.stream.subarray(this.frameEnd);
+        bytes.begun = rest.length < 6 && rest[0] === 255 && (rest.length < 2 || (rest[1] & 254) === 252);
     }
 }
 

@@ -49,13 +49,15 @@ function openOwn(name, stream) {
     streams.own = stream;
     Object.assign($("own"), { hidden: false, textContent: `your own: ${name}` });
     $("own").dataset.name = name;
-    return open("own", name).then(() => $("judgement").focus());
+    const shown = open("own", name), mine = asked;
+    return shown.then(() => mine === asked && $("judgement").focus());
 }
 
 // A file, unless something else was asked for while it was fetched.
 async function openFile(file) {
     const mine = ++asked;
     view("listen");
+    $("pick").value = $("shows").textContent = ""; // none of the list is shown, and each can be chosen
     if (file.size > STREAM) return tooLong(file.name, file.size);
     const stream = await file.arrayBuffer().catch((problem) => trouble(`${file.name} cannot be read: ${problem.message}. Is it a folder?`));
     if (stream && mine === asked) await openOwn(file.name, new Uint8Array(stream));
@@ -77,9 +79,7 @@ function startOpening() {
     $("file").onchange = () => $("file").files[0] && openFile($("file").files[0]).then(() => ($("file").value = ""));
     addEventListener("dragenter", () => mark(1));
     addEventListener("dragleave", () => mark(-1));
-    addEventListener("dragover", (event) => event.preventDefault());
     addEventListener("drop", (event) => {
-        event.preventDefault();
         mark(-over);
         if (event.dataTransfer.files[0]) openFile(event.dataTransfer.files[0]);
         else trouble("What was dropped is no file.");
@@ -88,6 +88,7 @@ function startOpening() {
 
 async function start() {
     const wanted = location.hash.slice(1), redraw = () => drawings.forEach((draw) => draw());
+    for (const name of ["dragover", "drop"]) addEventListener(name, (event) => event.preventDefault()); // a file must not take the page away
     unpack();
     await startWorker();
     const ring = startRingOut(streams);
@@ -107,5 +108,6 @@ async function start() {
 
 start().catch((problem) => {
     $("judgement").textContent = "The decoder did not start.";
+    $("verdict").ariaBusy = "false";
     trouble(`This browser cannot run the page: ${problem.message}.`);
 });

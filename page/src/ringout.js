@@ -1,5 +1,5 @@
 // "Ring-out": how long one clip is heard in the next, counted bit for bit.
-import { $, fill, make, options } from "./dom.js";
+import { $, fill, make, options, trouble } from "./dom.js";
 import { ask } from "./work.js";
 import { drawRing } from "./draw.js";
 import { playButton, readySound, stop } from "./sound.js";
@@ -44,9 +44,9 @@ async function count() {
     stop();
     await last; // one count at a time: those in between are left out
     if (mine !== turn) return;
-    last = ask("ring", { first, second, frames: Number($("frames").value) });
+    last = ask("ring", { first, second, frames: Number($("frames").value) }).catch((problem) => trouble(`Nothing was counted: ${problem.message}.`));
     const found = await last;
-    if (mine !== turn) return;
+    if (mine !== turn || !found) return;
     ring = found;
     Object.assign($("frames"), { max: ring.total, value: ring.frames, ariaValueText: `${ring.frames} of ${ring.total}` });
     $("frames-words").textContent = `${ring.frames} of ${ring.total}`;
