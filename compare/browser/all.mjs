@@ -18,6 +18,7 @@ await count.part("exercises beside the Rust's answers", () => stored.compareExer
 await count.part("ring-out", () => stored.compareRing(count, module));
 await count.part("parts of the sound", () => stored.compareCopies(count, module));
 await count.part("modules that are wrong on purpose", () => stored.compareWrong(count));
+await count.part("pages that are wrong on purpose", () => stored.compareWrongPages(count));
 if (browser) await drive(count, browser);
 console.log(`${count.compared} compared, ${count.differ} differ`);
 process.exit(count.differ ? 1 : 0);

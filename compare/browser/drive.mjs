@@ -6,6 +6,7 @@ import { compareContrast, compareKeys, compareNames, compareWidth } from "./look
 import { Page } from "./page.mjs";
 import { answersOf } from "./answers.mjs";
 import { sleep } from "./chromium.mjs";
+import { REASONS } from "../../page/src/words.js";
 
 const VIEWS = ["listen", "incident", "ring-out", "try-it"];
 const MADE = path.resolve("target/page/made");
@@ -99,7 +100,9 @@ async function compareSound(count, page) {
     await page.key("Home");
     await page.until(`${isOn("play")} && parseFloat(clock.textContent) < 2`);
     count.holds(true, "the place is moved while it plays");
-    await page.click("#play");
+    await page.pick("lavender");
+    await sleep(3000); // by then a late piece of the first clip, or silence, would have been told
+    count.same(await page.run("trouble.hidden && !document.querySelector('.play.on')"), true, "a clip picked while another plays stops it, and nothing is wrong");
 }
 
 async function compareBytes(count, page) {
@@ -129,6 +132,8 @@ async function compareBytes(count, page) {
 async function compareIncident(count, page) {
     await page.view("incident");
     await page.keep("incident");
+    const reasons = await page.run("[...document.querySelectorAll('[data-reason]')].map(({ textContent }) => textContent)");
+    count.same(reasons.join(), [6, 1, 1, 2, 3, 4, 5, 6, 7].map((number) => `${number}: ${REASONS[number]}`).join(), "the reasons in the incident and among the words");
     const heard = (id) => page.run(`document.querySelector("#parts-${id} [aria-current]")?.textContent ?? ""`);
     for (const [id, ms, words] of [["old", 5500, "At the lavender jar: “Citrus jar."], ["ours", 5200, "No other clip is started"], ["mended", 1000, "Lavender jar. Contains linalool"]]) {
         await page.click(`#play-${id}`);
@@ -233,7 +238,8 @@ async function compareOthers(count, page) {
         "bare.mp3": [Buffer.concat([Buffer.from([0xff, 0xfb, 0x90, 0]), Buffer.alloc(413)]), "This looks like an MP3 file"],
         "low.mp2": [Buffer.concat([Buffer.from([0xff, 0xf5, 0x84, 0xc4]), Buffer.alloc(300)]), "This looks like Layer II at a low sample rate"],
         "sound.wav": [stored.wavOf(stored.clips.citrus.slice(0, 416)), "This is a WAV file: its sound is decoded already."],
-        "list.txt": [text("Contains linalool, geraniol and coumarin.\n"), "This is text."],
+        "list.txt": [Buffer.from("Contains linalool, geraniol and coumarin – no more.\n"), "This is text."],
+        "late.bin": [Buffer.concat([text("no more than a beginning. ".repeat(40)), Buffer.alloc(9)]), "Hardly anything in it can be played."],
         "picture.png": [Buffer.concat([text("\x89PNG\r\n\x1a\n"), Buffer.alloc(50)]), "This is a picture (PNG)."],
         "one.mp2": [Buffer.from([255]), "Hardly anything in it can be played."],
         "cut.mp2": [stored.clips.citrus.slice(0, 100), "A header was read, but the frame behind it is cut off (7)."],
@@ -247,6 +253,17 @@ async function compareOthers(count, page) {
     }
     await page.give("clips/citrus.mp2");
     count.same(await page.text("judgement"), "✔ Every frame was played.", "a clip after all these");
+}
+
+// A folder has no bytes. The browser's words for that end with a full stop, and the page's sentence goes on behind them.
+async function compareFolder(count, page) {
+    const { result } = await page.send("Runtime.evaluate", { expression: "file" });
+    await page.send("DOM.setFileInputFiles", { files: [path.resolve("clips")], objectId: result.objectId });
+    await page.until("!trouble.hidden");
+    const words = await page.text("trouble");
+    count.holds(/^clips cannot be read: .*[^.]\. Is it a folder\?$/.test(words), `a folder: ${words}`);
+    await page.pick("citrus");
+    count.same(await page.run("trouble.hidden"), true, "it is forgotten with the next clip");
 }
 
 async function compareDrop(count, page) {
@@ -264,6 +281,7 @@ async function compareLong(count, page) {
     await page.start(made("too-long.mp2", Buffer.alloc(16777217)));
     count.same(await page.text("judgement"), "✖ The file is too long (8).", "a file that is too long");
     count.same(await page.text("of"), "too-long.mp2, 16,777,217 bytes", "its name and length");
+    count.same(await page.run("pick.value + shows.textContent"), "", "no clip of the list is said to be shown");
     await page.keep("too-long");
     await page.watch();
     await page.start(long);
@@ -327,6 +345,10 @@ async function compareReadings(count, browser) {
     await page.until("!beside.hidden && beside.textContent");
     count.same(await page.text("beside"), `Read plainly: ${await page.text("line")}`, "two readings side by side");
     await page.keep("readings");
+    await page.start(made("too-long.mp2", Buffer.alloc(16777217)));
+    count.same(await page.run("beside.hidden"), true, "no reading of another clip stands under a file that is too long");
+    count.same(await page.run(`new Promise((told) => { addEventListener("securitypolicyviolation", ({ effectiveDirective }) => told(effectiveDirective));
+        fetch("http://127.0.0.1:9/").catch(() => setTimeout(told, 1000)); })`), "connect-src", "the browser refuses a connection by the page's own rule");
     await page.close();
 }
 
@@ -350,7 +372,7 @@ export async function drive(count, browser) {
         await pictures(page);
         await count.part("browser beside the Rust's stored answers", () => compareStreams(count, page));
         const parts = { "built-in clips": compareClips, sound: compareSound, bytes: compareBytes, incident: compareIncident, "ring-out in the browser": compareRing, exercises: compareTries,
-            "a stream of one's own": compareOwn, "files that are no clip": compareOthers, "a dropped file": compareDrop, "the longest streams": compareLong, "for everybody": compareLooks, "files saved": compareFiles };
+            "a stream of one's own": compareOwn, "files that are no clip": compareOthers, "a folder": compareFolder, "a dropped file": compareDrop, "the longest streams": compareLong, "for everybody": compareLooks, "files saved": compareFiles };
         for (const [words, part] of Object.entries(parts)) await count.part(words, () => part(count, page));
         for (const trouble of page.troubles()) count.holds(false, trouble);
         count.holds(true, "no error, and nothing asked of the network");

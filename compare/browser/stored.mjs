@@ -1,12 +1,14 @@
 // The page's scripts in node: every stored stream beside the unchanged Rust's answers, WAV files beside the proved program's,
-// the page's words beside the specs', the exercises beside the Rust's answers, and modules that are wrong on purpose.
+// the page's words beside the specs', the exercises beside the Rust's answers, and modules and pages that are wrong on purpose.
 import { execFileSync, spawnSync } from "node:child_process";
 import fs from "node:fs";
 import { joined, ringOut } from "../../page/src/ring.js";
 import { Decoder } from "../../page/src/tag.js";
 import { made } from "../../page/src/exercises.js";
 import { Listing } from "../../page/src/listing.js";
-import { MODES, REASONS, verdict } from "../../page/src/words.js";
+import { MODES, REASONS } from "../../page/src/words.js";
+import { goesOn } from "../../page/src/calls.js";
+import { verdict } from "../../page/src/verdict.js";
 import { answersOf } from "./answers.mjs";
 import { wavHeader } from "../../page/src/wav.js";
 
@@ -39,12 +41,65 @@ export function compareWavs(count, module) {
     for (const { name, stream } of all) count.holds(pageWav(module, stream).equals(wavOf(stream)), `the WAV file of ${name}`);
 }
 
-// What the specs say in words stands in the page as it is.
+// The numbers of which a definition of crates/audio/specs/Numbers holds. It is written `eqb n NAME || eqb n NAME`, and a
+// definition of another form gives none.
+function numbersOf(specs, name) {
+    const written = specs.match(new RegExp(`^${name} n = (.*)$`, "m"))[1].replace(/[()]/g, "").split(" || "), form = /^eqb n (\w+)$/;
+    const value = (each) => Number(specs.match(new RegExp(`^${each.match(form)[1]} = (\\d+)$`, "m"))[1]);
+    return written.every((each) => form.test(each)) ? written.map(value) : [];
+}
+
+// What the specs say in words stands in the page as it is, and after the same numbers no call follows.
 export function compareWords(count) {
     const specs = fs.readFileSync("crates/listing/specs/Words.antt", "utf8"), letters = (part) => [...part.matchAll(/letters "(.*?)"/g)].map((found) => found[1]);
     const [reasons, modes] = ["reasonOf n =", "modeOf n ="].map((name) => letters(specs.split(name)[1].split("\n\n")[0]));
     count.same(REASONS.slice(1).join(), reasons.slice(0, -1).join(), "the reasons");
     count.same(MODES.join(), modes.join(), "the modes");
+    const numbers = fs.readFileSync("crates/audio/specs/Numbers.antt", "utf8"), last = ["ends", "callersMistake"].flatMap((name) => numbersOf(numbers, name));
+    for (let number = 0; number <= 14; number++) count.same(goesOn(number), !last.includes(number), `whether a call may follow ${number}`);
+}
+
+// Pages that are wrong on purpose: in which file of page/src, what stands there, what is put in its place, and why
+// page/pack.mjs must refuse the page.
+const OUTSIDE = "the page asks for something from outside", CONNECTS = "the page does not tell the browser to refuse every connection";
+const WRONG_PAGES = {
+    "no rule against connections": ["page.html", /<meta http-equiv="Content.*\n/, "", CONNECTS],
+    "a rule in a comment": ["page.html", /<meta http-equiv="Content.*/, "<!-- $& -->", CONNECTS],
+    "a rule behind a script": ["page.html", /(<meta http-equiv="Content.*\n)([^]*<\/script>\n)/, "$2$1", CONNECTS],
+    "a rule that allows every connection": ["page.html", "default-src 'none'", "default-src *", CONNECTS],
+    "a rule that allows one more": ["page.html", "base-uri 'none'", "$&; connect-src *", CONNECTS],
+    "a script from outside": ["page.html", "</main>", '<script src="x.js"></script>$&', OUTSIDE],
+    "a picture from outside": ["page.html", "</main>", "<img srcset=x>$&", OUTSIDE],
+    "a link to another page": ["page.html", "</main>", '<a href="x.html">x</a>$&', OUTSIDE],
+    "another page after a while": ["page.html", "<title>", '<meta http-equiv="refresh" content="0">$&', OUTSIDE],
+    "a style from outside": ["page.css", ":root", "@import 'x.css';\n$&", OUTSIDE],
+    "a background from outside": ["page.css", "body {", "body { background: url(x.png);", OUTSIDE],
+    "a question to a server": ["main.js", "const VIEWS", "fetch(VIEWS);\n$&", OUTSIDE],
+    "a question by the worker": ["worker.js", "const SLICE", "new WebSocket(SLICE);\n$&", OUTSIDE],
+    "a script that goes to another page": ["main.js", "const VIEWS", "location.assign(VIEWS);\n$&", OUTSIDE],
+    "an address": ["words.js", "no sync found", "see http://x", OUTSIDE],
+    "a name that nobody exports": ["words.js", "import { PAIRS }", "import { PAIRS, NOBODY }", "words.js imports NOBODY from tag.js, which has no such name"],
+    "an export that is not packed": ["dom.js", "export const fill", "export let other = 0;\n$&", "dom.js imports or exports in a way that is not packed"],
+    "an import that is not packed": ["dom.js", "import { goesOn }", "import * as calls", "dom.js imports or exports in a way that is not packed"],
+    "modules in a circle": ["words.js", "import { PAIRS", 'import { verdict } from "./verdict.js";\n$&', "modules in a circle"],
+    "a script that ends too soon": ["words.js", "no sync found", "</SCRIPT>", "main has what cannot stand in a script"],
+};
+
+// Each wrong page is refused for its own reason. Without a mistake it is packed, and is page/listen.html.
+export function compareWrongPages(count) {
+    const house = "target/page/house", out = `${house}/page.html`, packed = () => spawnSync("node", [`${house}/page/pack.mjs`, "target/page/tag.wasm", out], { encoding: "utf8" });
+    fs.rmSync(house, { recursive: true, force: true });
+    for (const part of ["page", "clips", "NOTICE", "crates/replay/data"]) fs.cpSync(part, `${house}/${part}`, { recursive: true });
+    for (const [words, [file, old, text, why]] of Object.entries(WRONG_PAGES)) {
+        const source = `${house}/page/src/${file}`, right = fs.readFileSync(source, "utf8"), wrong = right.replace(old, text);
+        fs.writeFileSync(source, wrong);
+        const { status, stderr } = packed();
+        fs.writeFileSync(source, right);
+        count.holds(wrong !== right, `the mistake makes no other page: ${words}`);
+        count.holds(status === 1 && stderr.startsWith(why) && !fs.existsSync(out), `not refused, or not for this: ${words}\n  ${stderr.trim()}`);
+        fs.rmSync(out, { force: true });
+    }
+    if (count.same(packed().status, 0, "a page without a mistake")) count.holds(fs.readFileSync(out).equals(fs.readFileSync("page/listen.html")), "it is the page");
 }
 
 // The streams of the exercises beside the Rust's answers, which stand in exercises.txt.

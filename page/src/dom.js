@@ -29,6 +29,9 @@ export function chip(number) {
     return make("span", { className: "chip", title: REASONS[number], style: `background: var(--${colourOf(number)})` }, sign(signOf(number)), word);
 }
 
+// Bytes that the page carries as text.
+export const unpacked = (text) => Uint8Array.from(atob(text), (letter) => letter.charCodeAt(0));
+
 // Hands a file to the person.
 export function save(blob, name) {
     const link = make("a", { href: URL.createObjectURL(blob), download: name });
@@ -36,8 +39,8 @@ export function save(blob, name) {
     setTimeout(() => URL.revokeObjectURL(link.href), 60000);
 }
 
-// Says what went wrong, where it cannot be missed.
+// Says what went wrong, where it cannot be missed. A browser's own words may end with a full stop, and need no second one.
 export function trouble(words) {
-    $("trouble").textContent = words;
+    $("trouble").textContent = words.replace(/\.\.( |$)/, ".$1");
     $("trouble").hidden = !words;
 }

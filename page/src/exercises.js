@@ -24,12 +24,12 @@ export const EDITS = {
 
 // The streams of an exercise, before and after each edit, out of the book of exercises and the built-in clips.
 export function steps({ begin, edits = [] }, book, clips) {
-    const streams = [piece(book.beginnings[begin], clips)];
-    for (const { edit, what, ...words } of edits) streams.push(EDITS[edit].make(streams.at(-1), words, what && piece(book[edit][what], clips)));
+    const streams = [piece(book.pieces[begin], clips)];
+    for (const { edit, what, ...words } of edits) streams.push(EDITS[edit].make(streams.at(-1), words, what && piece(book.pieces[what], clips)));
     return streams;
 }
 
 export const made = (exercise, book, clips) => steps(exercise, book, clips).at(-1);
 
 // An edit in words: what it did to the stream before it.
-export const editWords = ({ edit, what, ...words }, stream, book) => EDITS[edit].words({ ...words, ...book[edit]?.[what] }, stream);
+export const editWords = ({ edit, what, ...words }, stream, book) => EDITS[edit].words({ ...words, ...book.pieces[what] }, stream);

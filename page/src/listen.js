@@ -4,7 +4,8 @@ import { Calls } from "./calls.js";
 import { ask, askLong, cancel } from "./work.js";
 import { drawMap, drawWave } from "./draw.js";
 import { isPlaying, playButton, stop } from "./sound.js";
-import { counted, formatWords, seconds, verdict } from "./words.js";
+import { counted, formatWords, seconds } from "./words.js";
+import { verdict } from "./verdict.js";
 import { chosenReading, showBeside } from "./readings.js";
 import { listText, showBytes } from "./bytes.js";
 
@@ -25,6 +26,7 @@ function say(kind, judgement, advice, line, rest) {
     fill($("judgement"), ...(SIGNS[kind] ? [sign(SIGNS[kind])] : []), judgement);
     fill($("advice"), ...advice.map((words) => make("p", {}, words)));
     $("line").textContent = line;
+    $("beside").hidden = true; // it belongs to the verdict before
     for (const id of ["sound", "bytes", "list"]) $(id).hidden = !rest;
 }
 
@@ -35,13 +37,12 @@ export async function show(name, stream) {
     cancel();
     trouble("");
     $("of").textContent = `${name}, ${counted(stream.length, "byte")}`;
-    $("verdict").setAttribute("aria-busy", "true");
+    $("verdict").ariaBusy = "true";
     say("", "It is being read …", [], "", false);
-    $("beside").hidden = true;
     const failed = (problem) => mine === turn && (trouble(`${name} cannot be shown: ${problem.message}.`), undefined);
     const next = await listed("listen", name, stream, chosenReading()).catch(failed);
     if (mine !== turn) return;
-    $("verdict").setAttribute("aria-busy", "false");
+    $("verdict").ariaBusy = "false";
     if (!next) return say("none", "It was not read to its end.", ["Choose a clip, or open a file."], "", false);
     clip = { ...next, marks: marks(next) };
     const { kind, judgement, advice, line } = verdict(clip);
@@ -122,7 +123,7 @@ export function tooLong(name, length) {
     stop();
     cancel();
     trouble("");
-    $("verdict").setAttribute("aria-busy", "false");
+    $("verdict").ariaBusy = "false";
     $("of").textContent = `${name}, ${counted(length, "byte")}`;
     say("none", "The file is too long (8).", ["A stream has 16,777,216 bytes at most. This one was not read."], "", false);
 }

@@ -1,5 +1,5 @@
 // The page: its tabs, its clips, and files that are opened or dropped.
-import { $, option, trouble } from "./dom.js";
+import { $, option, trouble, unpacked } from "./dom.js";
 import { startWorker } from "./work.js";
 import { show, startListen, tooLong } from "./listen.js";
 import { startIncident } from "./incident.js";
@@ -8,6 +8,7 @@ import { startTryIt } from "./tryit.js";
 import { showReadings } from "./readings.js";
 import { joined } from "./ring.js";
 import { stop } from "./sound.js";
+import { REASONS } from "./words.js";
 import { STREAM } from "./tag.js";
 
 const VIEWS = ["listen", "incident", "ring-out", "try-it"];
@@ -65,11 +66,12 @@ async function openFile(file) {
 
 function unpack() {
     for (const { name, title, bytes, parts, sentence } of JSON.parse($("clips").textContent)) {
-        streams[name] = parts ? joined(parts.map((part) => streams[part])) : Uint8Array.from(atob(bytes), (letter) => letter.charCodeAt(0));
+        streams[name] = parts ? joined(parts.map((part) => streams[part])) : unpacked(bytes);
         sentences[name] = sentence;
         $("pick").append(option(name, title));
     }
     $("pick").append(Object.assign(option("own", ""), { id: "own", hidden: true }));
+    document.querySelectorAll("[data-reason]").forEach((place) => (place.textContent = `${place.dataset.reason}: ${REASONS[place.dataset.reason]}`));
 }
 
 function startOpening() {

@@ -1,7 +1,7 @@
 // Ways to read, chosen at opening: a switch for each, with what it does and a clip that shows it. A way comes with the
 // request that gives it an effect. Until then there is none, and no switch is shown.
 import { $, fill, make } from "./dom.js";
-import { verdict } from "./words.js";
+import { verdict } from "./verdict.js";
 
 export const READINGS = []; // { bit, name, sentence, clip }: `bit` is its place in the choices of tag_open
 

@@ -31,7 +31,7 @@ function play(owner, sound, from, step, ended) {
     }
     const me = { owner, sources: new Set(), ended }, begun = context.currentTime;
     playing = me;
-    context.resume();
+    context.resume().catch((problem) => playing === me && trouble(`The browser plays no sound: ${problem.message}.`));
     feed(me, sound, from).catch((problem) => playing === me && (stop(), trouble(`The sound stopped: ${problem.message}.`)));
     setTimeout(() => playing === me && context.currentTime === begun && trouble("The browser plays no sound. Is there a loudspeaker?"), 3000);
     const show = () => {

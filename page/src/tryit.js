@@ -3,12 +3,16 @@ import { $, chip, fill, make, option, options } from "./dom.js";
 import { ask } from "./work.js";
 import { listed } from "./listen.js";
 import { EDITS, editWords, made, steps } from "./exercises.js";
-import { REASONS, counted, grouped, hexOf, verdict } from "./words.js";
+import { REASONS, counted, grouped, hexOf } from "./words.js";
+import { verdict } from "./verdict.js";
 
 const OWN = "A stream of your own. Do something to it.";
 const CALLS = 12, HEX = 40; // shown at most
 const book = JSON.parse($("exercises").textContent), exercises = book.exercises;
 let clips, plan;
+
+// The choices of a place in the plan: what it may begin with, what may be put in front, what may be joined behind.
+const pieces = (place) => (book[place] ?? []).map((key) => option(key, book.pieces[key].name));
 
 // The answers to choose from.
 function guesses(frames) {
@@ -51,7 +55,7 @@ function own(begin, edits) {
 function showBoxes() {
     const edit = $("edit").value;
     for (const id of ["where", "bit", "what"]) $(`${id}-label`).hidden = !EDITS[edit].needs.includes(id);
-    fill($("what"), ...options(book[edit] ?? {}));
+    fill($("what"), ...pieces(edit));
 }
 
 function add() {
@@ -78,7 +82,7 @@ export function startTryIt(streams, open) {
     const chosen = () => Number($("exercise").value);
     clips = streams;
     fill($("exercise"), ...exercises.map((_, i) => option(i, `${i + 1} of ${exercises.length}`)), option(exercises.length, "your own stream"));
-    fill($("begin"), ...options(book.beginnings));
+    fill($("begin"), ...pieces("begin"));
     fill($("edit"), ...options(EDITS));
     $("exercise").onchange = () => (chosen() < exercises.length ? showPlan(exercises[chosen()]) : own(plan.begin, plan.edits));
     $("next-exercise").onclick = () => {

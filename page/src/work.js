@@ -1,5 +1,5 @@
 // The page's side of the worker: a question, its answer, how far it is, and a word to stop.
-import { $ } from "./dom.js";
+import { $, unpacked } from "./dom.js";
 
 const waiting = new Map();
 const long = new Set(); // jobs whose progress is shown
@@ -15,7 +15,7 @@ export function startWorker() {
         else answer(data.done);
     };
     worker.onerror = ({ message }) => waiting.forEach(({ fail }) => fail(new Error(message)));
-    return ask("begin", { bytes: Uint8Array.from(atob($("decoder").textContent), (letter) => letter.charCodeAt(0)) });
+    return ask("begin", { bytes: unpacked($("decoder").textContent) });
 }
 
 // Asks for a job. The promise has its number, by which it can be cancelled.
