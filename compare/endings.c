@@ -6,6 +6,7 @@
 #include <stdlib.h>
 #include <string.h>
 
+static void converter_at(uint32_t rate);
 static void to_the_converter(const int16_t *samples);
 #include "loop.c"
 
@@ -16,6 +17,7 @@ static uint8_t citrus[1 << 16], incident[1 << 16], too_long[TAG_STREAM + 1];
 static uint64_t citrus_count, incident_count;
 static float memory[TAG_MEMORY], output[TAG_OUTPUT];
 static uint64_t calls, budget, frames, heard, others;
+static uint32_t rate_set; /* the converter's; 0 before it was told one */
 static uint32_t to_come; /* calls that answer 13 and 14 in turn, numbers that are to come, before the library is asked */
 static unsigned compared, differ;
 
@@ -30,6 +32,11 @@ static void same(const char *what, uint64_t ours, uint64_t expected) {
     differ += ours != expected;
     if (ours != expected)
         printf("DIFFERS %s: %llu, expected %llu\n", what, (unsigned long long)ours, (unsigned long long)expected);
+}
+
+static void converter_at(uint32_t rate) {
+    same("the rate is set once, and before the first sample", rate_set + frames, 0);
+    rate_set = rate;
 }
 
 /* A sum over all samples in their order: two that play the same have the same. */
@@ -56,7 +63,7 @@ uint32_t __wrap_tag_decode(const uint8_t *stream, uint64_t stream_count, float *
 
 /* n / 2 + 1 calls, and the one that answers 1 or 7. */
 static void begin(uint64_t stream_count) {
-    calls = frames = heard = others = 0;
+    calls = frames = heard = others = rate_set = 0;
     budget = stream_count / 2 + 2;
 }
 
@@ -89,6 +96,7 @@ static void whole_clips(void) {
     same("the incident's end", play_clip(incident, incident_count, memory, TAG_MEMORY, output, TAG_OUTPUT, &others),
          TAG_REFUSED_NO_HEADER_CAN_FOLLOW);
     same("frames of the first clip", frames, 149);
+    same("the converter's rate", rate_set, 44100);
     same("frames of the other format", others, 154);
     begin(citrus_count);
     to_come = 4;
@@ -97,6 +105,8 @@ static void whole_clips(void) {
     same("frames behind them", frames, 149);
     begin(0);
     same("no byte", play_clip(citrus, 0, memory, TAG_MEMORY, output, TAG_OUTPUT, &others), TAG_REFUSED_NO_HEADER_CAN_FOLLOW);
+    same("no rate", rate_set, 0);
+    same("no call after it", calls, 0);
 }
 
 /* A clip that is cut, so that it ends with this number, and grows; and the same clip in one piece. When it is cut its

@@ -5,8 +5,8 @@
 #include <string.h>
 #include <ucontext.h>
 
-enum { OPEN, HAS_HEADER, SAMPLERATE, DECODE, SAMPLES16, NOTHING, CALLS };
-static const char *const NAMES[CALLS] = {"tag_open", "tag_has_header", "tag_samplerate", "tag_decode", "tag_samples16", "no call"};
+enum { OPEN, FORMAT, DECODE, SAMPLES16, NOTHING, CALLS };
+static const char *const NAMES[CALLS] = {"tag_open", "tag_format", "tag_decode", "tag_samples16", "no call"};
 #define PAINT 0xA5
 static _Alignas(64) unsigned char stack[1 << 18];
 static uint8_t stream[TAG_STREAM];
@@ -15,7 +15,8 @@ static uint64_t length;
 static float memory[TAG_MEMORY], output[TAG_OUTPUT];
 static int16_t samples[TAG_OUTPUT];
 static struct tag_state s;
-static uint32_t number, rate[1];
+static uint32_t number;
+static struct tag_told told;
 static struct tag_frame frame;
 static int which;
 
@@ -24,11 +25,8 @@ static void call(void) {
     case OPEN:
         number = tag_state_open(&s, stream, length, memory, TAG_MEMORY, 0);
         break;
-    case HAS_HEADER:
-        number = tag_state_has_header(&s, stream, length);
-        break;
-    case SAMPLERATE:
-        number = tag_state_samplerate(&s, rate);
+    case FORMAT:
+        number = tag_state_format(&s, stream, length, &told);
         break;
     case DECODE:
         number = tag_state_decode(&s, stream, length, memory, TAG_MEMORY, output, TAG_OUTPUT, &frame);
@@ -68,8 +66,7 @@ static int on_file(const char *name) {
     measure(NOTHING);
     measure(OPEN);
     do {
-        measure(HAS_HEADER);
-        measure(SAMPLERATE);
+        measure(FORMAT);
         measure(SAMPLES16);
         measure(DECODE);
     } while (!tag_ends(number) && !tag_callers_mistake(number));

@@ -13,7 +13,7 @@ enum status { PLAYED = 0, TELL_THE_KEEPER = 1, NO_FILE = 2, OUR_MISTAKE = 3 };
 static const char usage[] =
     "play CLIP SOUND\n"
     "Plays CLIP, at most 65536 bytes, to the file SOUND: samples of 16 bits, low byte first, left and right in turn.\n"
-    "Standard output has a line for each call, and then what the keeper of the clip has to know.\n"
+    "Standard output has the clip's format, a line for each call, and then what the keeper of the clip has to know.\n"
     "Status: 0 the clip was played to its end, or to where it is cut off; 1 nothing was played, or a call was refused\n"
     "on the way; 2 wrong words, a clip that is too long, or a file that cannot be read or written; 3 a mistake of this\n"
     "player.\n";
@@ -33,6 +33,11 @@ static const char *words_of(uint32_t number) {
         "the state is out of range",
     };
     return number < sizeof words / sizeof words[0] ? words[number] : "a number that this player does not know";
+}
+
+static const char *mode_of(uint32_t mode) {
+    static const char *const words[] = {"stereo", "joint stereo", "two channels", "mono"};
+    return mode < sizeof words / sizeof words[0] ? words[mode] : "a mode that this player does not know";
 }
 
 /* FNV-1a over the frame's values, so that two decoders can be compared line by line. */
@@ -62,11 +67,6 @@ static void tell_frame(const struct tag_state *state, const struct tag_frame *fr
            (unsigned long)frame->bits[0], (unsigned long)(sum >> 32), (unsigned long)(sum & 0xFFFFFFFF));
 }
 
-static void tell_refusal(const struct tag_state *state, uint32_t number) {
-    unsigned long at = (unsigned long)(state->places[TAG_PLACE_POSITION] / 8);
-    printf("%s %lu at %lu: %s\n", tag_ends(number) ? "end" : "refused", (unsigned long)number, at, words_of(number));
-}
-
 /* What came of a clip. */
 struct told {
     uint32_t number;       /* the last one */
@@ -75,6 +75,32 @@ struct told {
     unsigned long others;  /* of these, frames of another format: with 6 */
     int written;           /* whether the sound could be written */
 };
+
+static void tell_refusal(const struct tag_state *state, struct told *told) {
+    unsigned long at = (unsigned long)(state->places[TAG_PLACE_POSITION] / 8);
+    uint32_t number = told->number;
+    printf("%s %lu at %lu: %s\n", tag_ends(number) ? "end" : "refused", (unsigned long)number, at, words_of(number));
+    told->refused += tag_goes_on(number) != 0;
+    told->others += number == TAG_REFUSED_OTHER_FORMAT;
+}
+
+static void tell_format(const struct tag_told *format) {
+    unsigned long rate = format->rate[0], kbps = format->kbps[0];
+    printf("format: %lu samples a second, %lu kbps, %s\n", rate, kbps, mode_of(format->mode[0]));
+}
+
+/* Asks for the format until it is told. A tag would set its converter to the rate here. Where none will be told, the first
+ * call of tag_decode says why. */
+static void ask(struct tag_state *state, uint64_t length, struct told *told) {
+    struct tag_told format;
+    while (tag_goes_on(told->number = tag_state_format(state, stream, length, &format))) {
+        if (told->number == TAG_SUCCEEDED) {
+            tell_format(&format);
+            return;
+        }
+        tell_refusal(state, told);
+    }
+}
 
 /* One call and what it asks for. On 6 the player goes on in the same stream and starts no other clip: the player that took
  * it for the end read out the wrong jar. */
@@ -87,22 +113,19 @@ static void step(struct tag_state *state, uint64_t length, FILE *sound, struct t
         told->written = tag_samples16(output, TAG_OUTPUT, samples, TAG_OUTPUT) == TAG_SUCCEEDED && heard(sound);
         return;
     }
-    tell_refusal(state, told->number);
-    told->refused += tag_goes_on(told->number) != 0;
-    told->others += told->number == TAG_REFUSED_OTHER_FORMAT;
+    tell_refusal(state, told);
 }
 
 static struct told play(uint64_t length, FILE *sound) {
     struct tag_state state;
     struct told told = {0, 0, 0, 0, 1};
     told.number = tag_state_open(&state, stream, length, memory, TAG_MEMORY, 0);
-    if (told.number != TAG_SUCCEEDED && !tag_ends(told.number)) {
-        tell_refusal(&state, told.number);
-        told.refused += tag_goes_on(told.number) != 0;
-    }
+    if (told.number != TAG_SUCCEEDED && !tag_ends(told.number))
+        tell_refusal(&state, &told);
     /* After 8 or 9 nothing was cleared: such a decoder must not go on. */
     if (tag_callers_mistake(told.number))
         return told;
+    ask(&state, length, &told);
     do {
         step(&state, length, sound, &told);
     } while (tag_goes_on(told.number) && told.written);

@@ -4,7 +4,7 @@ mod tag;
 
 use std::fs::File;
 use std::io::{Read, Write};
-use tag::{count, place, samples16, Decoder, Frame, Refusal, MEMORY, OUTPUT};
+use tag::{count, mode, place, samples16, Decoder, Format, Frame, Refusal, MEMORY, OUTPUT};
 
 /// Bytes of a clip; more would be cut, so it is refused.
 const LONGEST: usize = 65_536;
@@ -16,7 +16,7 @@ const OUR_MISTAKE: i32 = 3;
 
 const USAGE: &str = "speak CLIP SOUND
 Plays CLIP, at most 65536 bytes, to the file SOUND: samples of 16 bits, low byte first, left and right in turn.
-Standard output has a line for each call, and then what the keeper of the clip has to know.
+Standard output has the clip's format, a line for each call, and then what the keeper of the clip has to know.
 Status: 0 the clip was played to its end, or to where it is cut off; 1 nothing was played, or a call was refused
 on the way; 2 wrong words, a clip that is too long, or a file that cannot be read or written; 3 a mistake of this
 player.
@@ -35,6 +35,16 @@ fn words_of(refusal: Refusal) -> &'static str {
         Refusal::LITTLE_ROOM => "memory or output is too short",
         Refusal::BAD_STATE => "the state is out of range",
         _ => "a number that this player does not know",
+    }
+}
+
+fn mode_of(format: Format) -> &'static str {
+    match format.mode {
+        mode::STEREO => "stereo",
+        mode::JOINT_STEREO => "joint stereo",
+        mode::TWO_CHANNELS => "two channels",
+        mode::MONO => "mono",
+        _ => "a mode that this player does not know",
     }
 }
 
@@ -88,6 +98,23 @@ impl Told {
     }
 }
 
+fn tell_format(format: Format) {
+    let (rate, kbps) = (format.rate, format.kbps);
+    println!("format: {rate} samples a second, {kbps} kbps, {}", mode_of(format));
+}
+
+/// Asks for the format until it is told. A tag would set its converter to the rate here. Where none will be told, the first
+/// call of `decode` says why.
+fn ask(d: &mut Decoder, stream: &[u8], told: &mut Told) {
+    loop {
+        match d.format(stream) {
+            Ok(format) => return tell_format(format),
+            Err(refusal) if refusal.goes_on() => told.tell_refusal(d, refusal),
+            Err(_) => return,
+        }
+    }
+}
+
 /// A tag would hand the samples to its converter here.
 fn heard(output: &[f32], sound: &mut File) -> std::io::Result<()> {
     let mut samples = [0; OUTPUT];
@@ -112,6 +139,9 @@ fn play(stream: &[u8], sound: &mut File) -> std::io::Result<Told> {
         _ => {}
     }
     // After 8 or 9 nothing was cleared: such a decoder must not go on.
+    if told.goes_on() {
+        ask(&mut d, stream, &mut told);
+    }
     while told.goes_on() {
         match d.decode(stream, &mut memory, &mut output) {
             Ok(frame) => {

@@ -1,4 +1,4 @@
-/* The decoder's five calls, for C99, C11 and C++. Link libtag.a; README.md beside this file says where it comes from and has
+/* The decoder's four calls, for C99, C11 and C++. Link libtag.a; README.md beside this file says where it comes from and has
  * the loop of a player.
  *
  * RAM: 8,192 bytes of memory, 9,216 of output, 104 of state, and 4,608 of 16-bit samples where they are wanted. Stack: at
@@ -90,10 +90,12 @@ enum tag_place {
 };
 
 enum tag_count {
-    TAG_COUNT_MODE,   /* 0 stereo, 1 joint stereo, 2 two channels, 3 mono */
+    TAG_COUNT_MODE,   /* see enum tag_mode */
     TAG_COUNT_FRAMES, /* frames decoded */
     TAG_COUNT_CHOICES /* the choices of the opening; the five numbers behind them are kept for later, 0 today */
 };
+
+enum tag_mode { TAG_MODE_STEREO = 0, TAG_MODE_JOINT_STEREO = 1, TAG_MODE_TWO_CHANNELS = 2, TAG_MODE_MONO = 3 };
 
 /* What the library takes for granted. Where one does not hold, the array has a negative size and nothing is built. */
 #define TAG_ASSERT(name, condition) typedef char tag_assert_##name[(condition) ? 1 : -1]
@@ -111,13 +113,13 @@ TAG_ASSERT(state, sizeof(struct tag_state) == 104);
 uint32_t tag_open(const uint8_t *stream, uint64_t stream_count, float *memory, uint64_t memory_count,
                   uint64_t places[TAG_PLACES], uint32_t counts[TAG_COUNTS], double time[1], uint32_t choices);
 
-/* Whether a header is known; if none is, the next one is tried. Answers 0 to 5, 8 or 10. */
-uint32_t tag_has_header(const uint8_t *stream, uint64_t stream_count,
-                        uint64_t places[TAG_PLACES], uint32_t counts[TAG_COUNTS], double time[1]);
-
-/* Leaves the samples a second in `rate`, 0 without a header. Answers 0 or 10. */
-uint32_t tag_samplerate(const uint64_t places[TAG_PLACES], const uint32_t counts[TAG_COUNTS], const double time[1],
-                        uint32_t rate[1]);
+/* The clip's format: samples a second, kilobits a second, and the mode, see enum tag_mode. If no header is known yet, the
+ * next one is tried; if one is, it is told, whatever follows in the stream. Answers 0 to 5, 8 or 10. With 0 the format stays
+ * until the next opening, and the header that was found is the next call's of tag_decode. With another number the three
+ * are 0; with 2 to 5 the position has moved on, and asking again, or tag_decode, goes on from there. */
+uint32_t tag_format(const uint8_t *stream, uint64_t stream_count,
+                    uint64_t places[TAG_PLACES], uint32_t counts[TAG_COUNTS], double time[1],
+                    uint32_t rate[1], uint32_t kbps[1], uint32_t mode[1]);
 
 /* The next frame. Answers 0 to 10. With 0 the output's first TAG_OUTPUT values are the frame, `start` is its start in
  * seconds and `bits` how many bits it used. With another number memory and output stay, and start and bits are 0.
@@ -133,6 +135,12 @@ uint32_t tag_decode(const uint8_t *stream, uint64_t stream_count, float *memory,
 uint32_t tag_samples16(const float *output, uint64_t output_count, int16_t *samples, uint64_t samples_count);
 
 /* The same calls over a state in one piece. */
+struct tag_told {
+    uint32_t rate[1]; /* samples a second */
+    uint32_t kbps[1]; /* kilobits a second */
+    uint32_t mode[1]; /* see enum tag_mode */
+};
+
 struct tag_frame {
     double start[1];  /* in seconds */
     uint64_t bits[1]; /* that the frame used */
@@ -143,12 +151,9 @@ static inline uint32_t tag_state_open(struct tag_state *state, const uint8_t *st
     return tag_open(stream, stream_count, memory, memory_count, state->places, state->counts, state->time, choices);
 }
 
-static inline uint32_t tag_state_has_header(struct tag_state *state, const uint8_t *stream, uint64_t stream_count) {
-    return tag_has_header(stream, stream_count, state->places, state->counts, state->time);
-}
-
-static inline uint32_t tag_state_samplerate(const struct tag_state *state, uint32_t rate[1]) {
-    return tag_samplerate(state->places, state->counts, state->time, rate);
+static inline uint32_t tag_state_format(struct tag_state *state, const uint8_t *stream, uint64_t stream_count,
+                                        struct tag_told *told) {
+    return tag_format(stream, stream_count, state->places, state->counts, state->time, told->rate, told->kbps, told->mode);
 }
 
 static inline uint32_t tag_state_decode(struct tag_state *state, const uint8_t *stream, uint64_t stream_count,

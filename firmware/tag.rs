@@ -1,4 +1,4 @@
-//! The decoder's five calls, for Rust, in editions 2021 and 2024. Link libtag.a; README.md beside this file says where it
+//! The decoder's four calls, for Rust, in editions 2021 and 2024. Link libtag.a; README.md beside this file says where it
 //! comes from. tag.h has the same calls for C, and says what the numbers mean and what the processor has to do. No
 //! allocation, no panic; `core` is enough. Counts and places are 64 bits wide on every processor.
 #![allow(dead_code)]
@@ -46,18 +46,15 @@ pub mod boundary {
             time: *mut [f64; 1],
             choices: u32,
         ) -> u32;
-        pub fn tag_has_header(
+        pub fn tag_format(
             stream: *const u8,
             stream_count: u64,
             places: *mut [u64; PLACES],
             counts: *mut [u32; COUNTS],
             time: *mut [f64; 1],
-        ) -> u32;
-        pub fn tag_samplerate(
-            places: *const [u64; PLACES],
-            counts: *const [u32; COUNTS],
-            time: *const [f64; 1],
             rate: *mut [u32; 1],
+            kbps: *mut [u32; 1],
+            mode: *mut [u32; 1],
         ) -> u32;
         pub fn tag_decode(
             stream: *const u8,
@@ -108,6 +105,22 @@ impl Refusal {
     }
 }
 
+/// What stands in `Format`'s `mode`, and in the state.
+pub mod mode {
+    pub const STEREO: u32 = 0;
+    pub const JOINT_STEREO: u32 = 1;
+    pub const TWO_CHANNELS: u32 = 2;
+    pub const MONO: u32 = 3;
+}
+
+/// A clip's format: samples a second, kilobits a second, and its `mode`.
+#[derive(Clone, Copy, Debug, PartialEq, Eq)]
+pub struct Format {
+    pub rate: u32,
+    pub kbps: u32,
+    pub mode: u32,
+}
+
 /// A frame that was decoded: its start in seconds, and the bits that it used.
 #[derive(Clone, Copy, Debug, PartialEq)]
 pub struct Frame {
@@ -154,19 +167,20 @@ impl Decoder {
         (d, answer(number, ()))
     }
 
-    /// Whether a header is known; if none is, the next one is tried.
-    pub fn has_header(&mut self, stream: &[u8]) -> Result<(), Refusal> {
+    /// The clip's format. If no header is known yet, the next one is tried, and a header that was found is the next call's
+    /// of `decode`; if one is, it is told, whatever follows in the stream. It stays until the next opening.
+    pub fn format(&mut self, stream: &[u8]) -> Result<Format, Refusal> {
+        let (mut rate, mut kbps, mut mode) = ([0], [0], [0]);
         let (data, length) = (stream.as_ptr(), stream.len() as u64);
         let (places, counts, time) = (&mut self.places, &mut self.counts, &mut self.time);
-        let number = unsafe { boundary::tag_has_header(data, length, places, counts, time) };
-        answer(number, ())
-    }
-
-    /// Samples a second; 0 without a header.
-    pub fn samplerate(&self) -> Result<u32, Refusal> {
-        let mut rate = [0];
-        let number = unsafe { boundary::tag_samplerate(&self.places, &self.counts, &self.time, &mut rate) };
-        answer(number, rate[0])
+        let number =
+            unsafe { boundary::tag_format(data, length, places, counts, time, &mut rate, &mut kbps, &mut mode) };
+        let format = Format {
+            rate: rate[0],
+            kbps: kbps[0],
+            mode: mode[0],
+        };
+        answer(number, format)
     }
 
     /// The next frame, to the output's first 2,304 values. 1.0 is full scale, and a loud clip goes beyond it. A refusal

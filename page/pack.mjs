@@ -9,14 +9,14 @@ const MOST = 24 * 1024; // bytes of the decoder
 // The page's rule for the browser: no connection. It stands in the head as it stands here, whole and on a line of its own.
 const POLICY = `<meta http-equiv="Content-Security-Policy" content="default-src 'none'; script-src 'unsafe-inline' 'wasm-unsafe-eval'; ` +
     `worker-src blob:; style-src 'unsafe-inline'; img-src data:; form-action 'none'; base-uri 'none'">`;
-const CALLS = ["tag_decode", "tag_has_header", "tag_open", "tag_samplerate", "tag_samples16"];
+const CALLS = ["tag_decode", "tag_format", "tag_open", "tag_samples16"];
 
 function refuse(words) {
     console.error(words);
     process.exit(1);
 }
 
-// The decoder, if it is what was thought of: nothing from outside, the five calls, its memory, and where that is free.
+// The decoder, if it is what was thought of: nothing from outside, the four calls, its memory, and where that is free.
 function decoder() {
     const bytes = fs.readFileSync(wasm), module = new WebAssembly.Module(bytes);
     const names = (list) => list.map(({ name, kind }) => `${kind} ${name}`).sort().join(", ");

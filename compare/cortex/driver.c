@@ -19,10 +19,8 @@ struct job {
     uint32_t calls;                                    /* of tag_decode, at most */
 };
 
-enum call { NOTHING, OPEN, HAS_HEADER, SAMPLERATE, DECODE, SAMPLES16, CALLS };
-static const char *const names[CALLS] = {
-    "nothing", "tag_open", "tag_has_header", "tag_samplerate", "tag_decode", "tag_samples16",
-};
+enum call { NOTHING, OPEN, FORMAT, DECODE, SAMPLES16, CALLS };
+static const char *const names[CALLS] = {"nothing", "tag_open", "tag_format", "tag_decode", "tag_samples16"};
 
 static struct job job;
 static uint8_t stream[1 << 17];
@@ -30,7 +28,7 @@ static float memory[TAG_MEMORY + BEHIND], output[TAG_OUTPUT + BEHIND];
 static int16_t samples[TAG_OUTPUT + BEHIND];
 static struct tag_state state;
 static struct tag_frame frame;
-static uint32_t rate[1];
+static struct tag_told told;
 
 /* ---- a call, by itself or with its stack measured */
 
@@ -38,10 +36,8 @@ __attribute__((noinline)) static uint32_t made(enum call call) {
     switch (call) {
     case OPEN:
         return tag_state_open(&state, stream, job.stream_count, memory, job.memory_count, job.choices);
-    case HAS_HEADER:
-        return tag_state_has_header(&state, stream, job.stream_count);
-    case SAMPLERATE:
-        return tag_state_samplerate(&state, rate);
+    case FORMAT:
+        return tag_state_format(&state, stream, job.stream_count, &told);
     case DECODE:
         return tag_state_decode(&state, stream, job.stream_count, memory, job.memory_count, output, job.output_count,
                                 &frame);
@@ -120,7 +116,8 @@ static void print_state(void) {
 static void print_line(enum call call, uint32_t number) {
     printf("%s %lu", names[call], (unsigned long)number);
     print_state();
-    print_wide(rate[0]);
+    print_wide(told.rate[0]);
+    print_wide((uint64_t)told.kbps[0] << 32 | told.mode[0]);
     print_double(frame.start[0]);
     print_wide(frame.bits[0]);
     print_wide(sum_of_values(memory, TAG_MEMORY + BEHIND));
@@ -147,10 +144,8 @@ static void do_job(void) {
     if (!job.saved)
         step(OPEN);
     for (uint32_t calls = 0; calls < job.calls && ends < 2; calls++) {
-        if (calls % 4 == 0) {
-            step(HAS_HEADER);
-            step(SAMPLERATE);
-        }
+        if (calls % 4 == 0)
+            step(FORMAT);
         uint32_t number = step(DECODE);
         if (number == TAG_SUCCEEDED || tag_callers_mistake(number))
             step(SAMPLES16);
@@ -171,7 +166,7 @@ static int next_job(FILE *file) {
     memset(samples, 0x55, sizeof samples);
     memset(&state, 0x66, sizeof state);
     memset(&frame, 0x77, sizeof frame);
-    memset(rate, 0x77, sizeof rate);
+    memset(&told, 0x77, sizeof told);
     return !job.saved || (taken(file, &state, sizeof state) && taken(file, memory, TAG_MEMORY * sizeof memory[0]));
 }
 

@@ -89,6 +89,18 @@ fn state(audio: &Audio) -> String {
     format!("{places} {} {frames} {:016x}", f.mode, time.to_bits())
 }
 
+/// The question about the format, by the Rust's pair: its line.
+fn format_told(audio: &mut Audio, stream: &[u8]) -> String {
+    let sought = by_01(stream, audio.at(), NO_FORMAT).number;
+    let number = if audio.knows_header() { 0 } else { sought };
+    assert_eq!(audio.has_header(), number == 0, "the Rust and 01 differ");
+    let (rate, kbps, mode) = match number {
+        0 => (audio.samplerate(), audio.kbps(), audio.format().mode),
+        _ => (0, 0, 0),
+    };
+    format!("format {number} {} {rate} {kbps} {mode}", state(audio))
+}
+
 /// What the program `across` must write of the stream on standard input.
 pub fn across() {
     let mut stream = Vec::new();
@@ -96,6 +108,7 @@ pub fn across() {
     let opening = by_01(&stream, 0, NO_FORMAT);
     let mut audio = Audio::new(stream.clone());
     println!("open {} {}", opening.number, state(&audio));
+    println!("{}", format_told(&mut audio, &stream));
     loop {
         let number = decode_by_01(&stream, audio.at(), audio.format(), audio.pending()).number;
         let start = audio.clock().1;
@@ -109,10 +122,10 @@ pub fn across() {
             continue;
         };
         assert_eq!(samples.time.to_bits(), start.to_bits(), "the start");
-        let (rate, bits) = (audio.samplerate(), audio.used().1);
         let told = format!(
-            "{rate} {:016x} {bits} {:016x}",
+            "{:016x} {} {:016x}",
             samples.time.to_bits(),
+            audio.used().1,
             checksum(&samples.interleaved)
         );
         println!("decode 0 {} {told}", state(&audio));

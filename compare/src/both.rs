@@ -5,7 +5,7 @@
 
 use crate::by_01::{by_01, decode_by_01};
 use crate::by_02::steps;
-use crate::firmware::{samples16, Decoder, Refusal, COUNTS, MEMORY, OUTPUT, PLACES};
+use crate::firmware::{self, samples16, Decoder, Refusal, COUNTS, MEMORY, OUTPUT, PLACES};
 use crate::saved::{fresh, written};
 use crate::source::traced::audio::Audio;
 use crate::source::{Format, NO_FORMAT};
@@ -173,20 +173,28 @@ impl<'a> Both<'a> {
         self.audio.lend(stream);
     }
 
-    pub fn samplerate(&mut self, stream: &[u8]) {
-        let (ours, told) = (self.ours.samplerate(), Ok(self.audio.samplerate()));
-        self.answered("samplerate", 0, ours, told, stream);
-    }
-
-    pub fn has_header(&mut self, stream: &[u8]) {
-        let told = match self.audio.knows_header() {
+    /// The question about the format, against the Rust's pair, which asks for a header and then for the rate, and against the
+    /// kbps and the mode that it keeps to itself. Asked again it tells the same, and leaves the same.
+    pub fn format(&mut self, stream: &[u8]) {
+        let number = match self.audio.knows_header() {
             true => 0,
             false => by_01(stream, self.audio.at(), NO_FORMAT).number,
         };
-        let ours = number_of(self.ours.has_header(stream));
+        let ours = self.ours.format(stream);
         self.rest = written(&self.rest);
-        self.audio.has_header();
-        self.answered("has_header", told, ours, told, stream);
+        let told = match self.audio.has_header() {
+            true => Ok(firmware::Format {
+                rate: self.audio.samplerate(),
+                kbps: self.audio.kbps() as u32,
+                mode: self.audio.format().mode as u32,
+            }),
+            false => Err(Refusal(number)),
+        };
+        self.answered("format", number, ours, told, stream);
+        if told.is_ok() {
+            let again = self.ours.format(stream);
+            self.answered("format again", number, again, told, stream);
+        }
     }
 
     /// One decode call on both.
@@ -235,10 +243,10 @@ impl<'a> Both<'a> {
         self.values(stream);
     }
 
-    /// The same for has_header.
-    pub fn header_refused(&mut self, stream: &[u8], number: u32) {
-        let ours = number_of(self.ours.has_header(stream));
+    /// The same for the question about the format.
+    pub fn format_refused(&mut self, stream: &[u8], number: u32) {
+        let ours = self.ours.format(stream);
         self.rest = written(&self.rest);
-        self.answered("listed: has_header", number, ours, number, stream);
+        self.answered("listed: format", number, ours, Err(Refusal(number)), stream);
     }
 }

@@ -9,16 +9,13 @@ use crate::seeded::Seeded;
 use crate::tally::Tally;
 use std::time::Instant;
 
-/// Calls both until neither moves any more, and twice again, with the other two calls at seeded moments.
+/// Calls both until neither moves any more, and twice again, with the question about the format at seeded moments.
 fn to_the_end(both: &mut Both, stream: &[u8], s: &mut Seeded) {
     let mut still = 0;
     while still < 3 {
         let before = both.state();
-        if s.below(3) == 0 {
-            both.samplerate(stream);
-        }
-        if s.below(4) == 0 {
-            both.has_header(stream);
+        if s.below(2) == 0 {
+            both.format(stream);
         }
         both.decode(stream);
         still = if both.state() == before { still + 1 } else { 0 };
@@ -49,9 +46,8 @@ fn changing(tally: &mut Tally, name: &str, clips: &Clips, s: &mut Seeded) {
     for _ in 0..3 + s.below(10) {
         stream = &streams[s.below(streams.len())];
         both.lend(stream);
-        match s.below(8) {
-            0 => both.samplerate(stream),
-            1 => both.has_header(stream),
+        match s.below(4) {
+            0 => both.format(stream),
             _ => both.decode(stream),
         }
     }
@@ -79,11 +75,10 @@ fn resumed(tally: &mut Tally, name: &str, clips: &Clips, s: &mut Seeded) {
 }
 
 fn go_on(mut both: Both, stream: &[u8], s: &mut Seeded) {
-    both.samplerate(stream);
-    if s.below(2) == 0 {
-        both.has_header(stream);
-    }
     for _ in 0..1 + s.below(3) {
+        if s.below(2) == 0 {
+            both.format(stream);
+        }
         both.decode(stream);
     }
 }
@@ -105,15 +100,14 @@ fn refused_by_all(tally: &mut Tally, name: &str, d: &mut Decoder, stream: &[u8],
     let (before, output) = (written(d), vec![GUARD; OUTPUT]);
     let (mut lent_memory, mut lent_output) = (memory.to_vec(), output.clone());
     let numbers = [
-        number_of(d.samplerate()),
-        number_of(d.has_header(stream)),
+        number_of(d.format(stream)),
         number_of(d.decode(stream, &mut lent_memory, &mut lent_output)),
     ];
     let left = (state_of(d), bits(&lent_memory) == bits(memory), lent_output == output);
     tally.same(
-        "listed: 10 from all three",
+        "listed: 10 from both",
         (numbers, left),
-        ([10; 3], (state_of(&before), true, true)),
+        ([10; 2], (state_of(&before), true, true)),
         || name.to_string(),
     );
 }
@@ -262,10 +256,10 @@ fn too_long(tally: &mut Tally, frame: Vec<u8>) {
     long.resize(STREAM + 1, 0);
     let mut memory = vec![GUARD; MEMORY];
     let (mut d, opened) = Decoder::new(&long, &mut memory, 0);
-    let headed = number_of(d.has_header(&long));
+    let told = number_of(d.format(&long));
     tally.same(
         "listed: opening 8",
-        (number_of(opened), headed, state_of(&d), memory == vec![GUARD; MEMORY]),
+        (number_of(opened), told, state_of(&d), memory == vec![GUARD; MEMORY]),
         (8, 8, state_of(&fresh(0)), true),
         || "opening".to_string(),
     );
@@ -275,21 +269,21 @@ fn too_long(tally: &mut Tally, frame: Vec<u8>) {
     }
     both.decode(&frame);
     both.refused(&long, 8, MEMORY, OUTPUT);
-    both.header_refused(&long, 8);
+    both.format_refused(&long, 8);
 }
 
 /// Both calls that leave numbers beside their answer, past the wrapper, from a state that knows a header: the answers of
-/// decode and samplerate, each with what stands beside it.
-fn beside(stream: &[u8], room: usize, ring: u64) -> ((u32, u64, u64), (u32, u32)) {
-    use crate::firmware::boundary::{tag_decode, tag_samplerate};
+/// decode and format, each with what stands beside it.
+fn beside(stream: &[u8], room: usize, ring: u64) -> ((u32, u64, u64), (u32, [u32; 3])) {
+    use crate::firmware::boundary::{tag_decode, tag_format};
     let (mut places, mut counts, mut time) = ([0; PLACES], [0; COUNTS], [0.0]);
     places[place::RING] = ring;
     let (mut memory, mut output) = ([GUARD; MEMORY], [GUARD; OUTPUT]);
-    let (mut rate, mut start, mut bits) = ([7], [-1.0], [7]);
+    let (mut rate, mut kbps, mut mode, mut start, mut bits) = ([7], [7], [7], [-1.0], [7]);
     let (data, length, room) = (stream.as_ptr(), stream.len() as u64, room as u64);
     let (ring, sound) = (memory.as_mut_ptr(), output.as_mut_ptr());
     let (places, counts, time) = (&mut places, &mut counts, &mut time);
-    let rated = unsafe { tag_samplerate(places, counts, time, &mut rate) };
+    let told = unsafe { tag_format(data, length, places, counts, time, &mut rate, &mut kbps, &mut mode) };
     let (start_at, bits_at) = (&mut start, &mut bits);
     let number = unsafe {
         tag_decode(
@@ -306,26 +300,30 @@ fn beside(stream: &[u8], room: usize, ring: u64) -> ((u32, u64, u64), (u32, u32)
             bits_at,
         )
     };
-    ((number, start[0].to_bits(), bits[0]), (rated, rate[0]))
+    let format = [rate[0], kbps[0], mode[0]];
+    ((number, start[0].to_bits(), bits[0]), (told, format))
 }
 
-/// Where two refusals hold, 01's order decides: 8, 9, 10. Beside each there are zeros.
+/// Where two refusals hold, 01's order decides: 8, 9, 10. Beside each there are zeros. The format is told whatever is lent
+/// to decode, but not on a stream too long.
 fn order(tally: &mut Tally) {
     tally.stream("two refusals at once");
     let long = vec![0; STREAM + 1];
-    for (length, room, ring, number) in [
-        (STREAM + 1, 0, 1, 8),
-        (STREAM + 1, MEMORY, 1, 8),
-        (STREAM, 0, 1, 9),
-        (STREAM, MEMORY, 1, 10),
-        (0, MEMORY, 0, 1),
+    let known = (0, [44_100, 32, 0]);
+    for (length, room, ring, number, told) in [
+        (STREAM + 1, 0, 1, 8, (8, [0; 3])),
+        (STREAM + 1, MEMORY, 1, 8, (8, [0; 3])),
+        (STREAM + 1, MEMORY, 0, 8, (8, [0; 3])),
+        (STREAM, 0, 1, 9, (10, [0; 3])),
+        (STREAM, MEMORY, 1, 10, (10, [0; 3])),
+        (STREAM, 0, 0, 9, known),
+        (0, MEMORY, 0, 1, known),
     ] {
-        let rated = if ring == 1 { (10, 0) } else { (0, 44_100) };
         tally.same(
             "listed: order, and zeros beside",
             beside(&long[..length], room, ring),
-            ((number, 0, 0), rated),
-            || format!("{length} bytes, room {room}"),
+            ((number, 0, 0), told),
+            || format!("{length} bytes, room {room}, ring {ring}"),
         );
     }
 }

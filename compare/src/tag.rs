@@ -1,5 +1,5 @@
 //! The static libraries' functions, with a slice passed as a pointer and a length, an array as a pointer. The decoder's
-//! four calls go by the wrapper that firmware uses, ../../firmware/tag.rs.
+//! three calls go by the wrapper that firmware uses, ../../firmware/tag.rs.
 
 mod boundary {
     extern "C" {

@@ -124,7 +124,8 @@ export class Listing {
     // A copy of the decoder is kept for every `every` frames; where there are too many, for twice as many.
     sounded() {
         const { decoder, stream } = this;
-        this.outline ??= new Outline(stream.length / frameBytes(decoder));
+        this.told ??= decoder.format();
+        this.outline ??= new Outline(stream.length / frameBytes(this.told));
         this.outline.add(decoder.output);
         if (decoder.frames % this.every) return;
         this.copies.push(decoder.save());
@@ -136,11 +137,9 @@ export class Listing {
     // How far the reading is, from 0 to 1.
     get share() { return Math.min(1, this.decoder.position / 8 / this.stream.length); }
 
-    // The format is that of the first header; `one-rate` in crates/heard/specs/Heard.antt says that every frame has it.
-    get format() {
-        const { rate, kbps, mode, frames } = this.decoder;
-        return { rate, kbps, mode, frames };
-    }
+    // The format was asked for once, behind the first frame: it is so until the next opening (`told-for-good` in
+    // crates/claims/specs/Asking.antt). Without a frame there is none.
+    get format() { return { ...this.told, frames: this.decoder.frames }; }
 
     // Frames `first` to `first + count - 1` as 16-bit samples, left and right in turn. The decoder is afterwards as it was.
     frames(first, count) {

@@ -1,4 +1,4 @@
-// The decoder as JavaScript sees it: the five calls of crate tag, compiled to WebAssembly, and all that is lent to them.
+// The decoder as JavaScript sees it: the four calls of crate tag, compiled to WebAssembly, and all that is lent to them.
 // What each call does, and what stands where in a state, is said in firmware/tag.h.
 
 export const STREAM = 16777216; // bytes that a stream has at most
@@ -6,7 +6,7 @@ export const PAIRS = 1152; // samples of a frame on each channel
 export const OUTPUT = 2 * PAIRS; // values of a frame, left and right in turn
 export const KBPS = [32, 48, 56, 64, 80, 96, 112, 128, 160, 192, 224, 256, 320, 384];
 const MEMORY = 2048, PAGE = 65536; // values of synthesis memory; bytes by which a module's memory grows
-const BYTES = { memory: 4 * MEMORY, places: 64, counts: 32, time: 8, start: 8, bits: 8, rate: 8, output: 4 * OUTPUT, samples: 2 * OUTPUT };
+const BYTES = { memory: 4 * MEMORY, places: 64, counts: 32, time: 8, start: 8, bits: 8, rate: 4, kbps: 4, mode: 8, output: 4 * OUTPUT, samples: 2 * OUTPUT };
 const SAVED = BYTES.memory + BYTES.places + BYTES.counts + BYTES.time;
 
 // Where everything lies in the module's memory, one behind the other: synthesis memory and state first, so that both are
@@ -37,7 +37,7 @@ export class Decoder {
         this.counts = new Uint32Array(bytes, at.counts, 8);
         this.used = new Uint32Array(bytes, at.bits, 1);
         this.began = new Float64Array(bytes, at.start, 1);
-        this.hertz = new Uint32Array(bytes, at.rate, 1);
+        this.told = new Uint32Array(bytes, at.rate, 3);
         this.output = new Float32Array(bytes, at.output, OUTPUT);
         this.samples = new Int16Array(bytes, at.samples, OUTPUT);
     }
@@ -59,15 +59,14 @@ export class Decoder {
         return this.samples;
     }
 
-    get rate() {
-        const { places, counts, time, rate } = this.at;
-        this.calls.tag_samplerate(places, counts, time, rate);
-        return this.hertz[0];
+    // The clip's format: samples a second, kilobits a second, the mode. Zeros where none is known, and the next header is none.
+    format() {
+        const { stream, places, counts, time, rate, kbps, mode } = this.at;
+        this.calls.tag_format(stream, this.count, places, counts, time, rate, kbps, mode);
+        return { rate: this.told[0], kbps: this.told[1], mode: this.told[2] };
     }
 
     get position() { return this.places[0]; }
-    get kbps() { return KBPS[this.places[4]]; }
-    get mode() { return this.counts[0]; }
     get frames() { return this.counts[1]; }
     get start() { return this.began[0]; }
     get bits() { return this.used[0]; }

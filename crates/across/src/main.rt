@@ -1,6 +1,7 @@
-// What firmware gets across the boundary: opens a clip on standard input, at most 65,536 bytes, and decodes until 1 or 7, through the tag's
-// calls alone. A line for each call: its number, the state as the arrays hold it, and behind a frame its rate, start, bits and a checksum
-// of its samples. What it must write are the unchanged Rust's answers: streams/README.md says how they were made.
+// What firmware gets across the boundary: opens a clip on standard input, at most 65,536 bytes, asks for its format, and decodes until
+// 1 or 7, through the tag's calls alone. A line for each call: its number, the state as the arrays hold it, and what else the call left:
+// rate, kbps and mode; or behind a frame its start, bits and a checksum of its samples. What it must write are the unchanged Rust's
+// answers: streams/README.md says how they were made.
 use libc::STDERR_FILENO;
 use libc::STDOUT_FILENO;
 
@@ -26,9 +27,34 @@ fn put_state(places: &[usize; 8], counts: &[u32; 8], time: &[f64; 1]) -> bool {
     first & second & third & counted & put_bits(text::time_bits(time[0]))
 }
 
-fn put_frame(rate: u32, start: f64, bits: usize, output: &[f32; synthesis::OUTPUT]) -> bool {
-    let begun = put_count(rate) & put_bits(text::time_bits(start));
-    begun & put_number(bits as u64) & put_bits(text::checksum::sum(output))
+fn put_frame(start: f64, bits: usize, output: &[f32; synthesis::OUTPUT]) -> bool {
+    let begun = put_bits(text::time_bits(start)) & put_number(bits as u64);
+    begun & put_bits(text::checksum::sum(output))
+}
+
+// tag_format, and its line.
+fn format(
+    stream: &[u8],
+    places: &mut [usize; 8],
+    counts: &mut [u32; 8],
+    time: &mut [f64; 1],
+) -> bool {
+    let mut rate = [0u32; 1];
+    let mut kbps = [0u32; 1];
+    let mut mode = [0u32; 1];
+    let number = tag::tag_format(
+        stream,
+        places,
+        counts,
+        time,
+        &mut rate,
+        &mut kbps,
+        &mut mode,
+    );
+    let begun = io::write_all(STDOUT_FILENO, b"format") & put_count(number);
+    let stated = put_state(places, counts, time);
+    let told = put_count(rate[0]) & put_count(kbps[0]) & put_count(mode[0]);
+    begun & stated & told & io::write_all(STDOUT_FILENO, b"\n")
 }
 
 // After a call: the calls end, or go on, or standard output takes no more.
@@ -49,7 +75,6 @@ fn decode(
 ) -> Then {
     let mut start = [0.0f64; 1];
     let mut bits = [0usize; 1];
-    let mut rate = [0u32; 1];
     let number = tag::tag_decode(
         stream,
         memory,
@@ -63,8 +88,7 @@ fn decode(
     let mut taken = io::write_all(STDOUT_FILENO, b"decode") & put_count(number);
     taken = taken & put_state(places, counts, time);
     if number == 0 {
-        tag::tag_samplerate(places, counts, time, &mut rate);
-        taken = taken & put_frame(rate[0], start[0], bits[0], output);
+        taken = taken & put_frame(start[0], bits[0], output);
     }
     if !(taken & io::write_all(STDOUT_FILENO, b"\n")) {
         return Then::Failed;
@@ -85,7 +109,7 @@ fn play(stream: &[u8]) -> bool {
     let number = tag::tag_open(stream, &mut memory, &mut places, &mut counts, &mut time, 0);
     let opened = io::write_all(STDOUT_FILENO, b"open") & put_count(number);
     let stated = put_state(&places, &counts, &time) & io::write_all(STDOUT_FILENO, b"\n");
-    if !(opened & stated) {
+    if !(opened & stated & format(stream, &mut places, &mut counts, &mut time)) {
         return false;
     }
     let mut calls = stream.len() / 2 + 2;

@@ -1,5 +1,5 @@
--- The four public calls: for each the answer with the new state, the memory and the output, whatever the input.
--- From 01, "Numbers a call can give" and "The tag's share of the code".
+-- The three public calls: for each the answer with the new state, the memory and the output, whatever the input.
+-- From 01, "Numbers a call can give" and "The tag's share of the code", and from 02, E7.
 use Prim.Native.Nat.{ℕ, _-_}
 use mathlib.Core.Bool.{cond, false}
 use mathlib.Core.List.{List, _++_}
@@ -13,18 +13,20 @@ use Rattle.buffer.specs.Calls.{alignOf}
 use Rattle.buffer.specs.declared.Reader.{Reader}
 use Rattle.buffer.specs.declared.Moved.{Moved}
 use Rattle.buffer.specs.declared.Moved.the-variants.{To, Refused as MovedRefused}
-use Rattle.tables.specs.Standard.{rateOf}
+use Rattle.tables.specs.Standard.{rateOf, kbpsOf}
 use Rattle.synthesis.specs.Slots.{positionAfter, memoryLength}
 use Rattle.frame.specs.Frame.{cutFormat, granulesAt, frameMemory, frameOutput}
+use Rattle.header.specs.declared.Format.{Format}
 use Rattle.header.specs.declared.Reading.{Reading}
-use Rattle.state.specs.State.{fresh, inRange, framedTo}
+use Rattle.state.specs.State.{fresh, framedTo}
 use Rattle.state.specs.declared.Audio.{Audio}
-use Rattle.verdict.specs.Verdict.{asked, attemptOf, unlessAtOnce, readyOf}
+use Rattle.verdict.specs.Verdict.{attemptOf, unlessAtOnce, readyOf, knownOf}
 use Rattle.verdict.specs.declared.Heading.{Heading}
 use Rattle.verdict.specs.declared.Heading.the-variants.{Known, Refused}
 use Rattle.verdict.specs.declared.Asked.{Asked}
-use Rattle.audio.specs.declared.Rate.{Rate}
-use Rattle.audio.specs.declared.Rate.the-variants.{Hertz, Refused as RateRefused}
+use Rattle.audio.specs.declared.Told.{Told}
+use Rattle.audio.specs.declared.Told.the-variants.{Format as FormatTold, Refused as ToldRefused}
+use Rattle.audio.specs.declared.Reply.{Reply}
 use Rattle.audio.specs.declared.Answer.the-variants.{Frame, Refused as AnswerRefused}
 use Rattle.audio.specs.declared.Decoded.{Decoded}
 
@@ -96,12 +98,13 @@ openOf reading s memory = unlessAtOnce (noRoomOf s (length memory)) (fresh readi
 unfoldable pub openMemory : List ℕ → List Float → List Float
 openMemory s memory = cond (eqb (noRoomOf s (length memory)) 0) (blank ++ drop memoryLength memory) memory
 
--- ---- has_header: "8, 10, then 0 if a header is known, else 1 to 5 or 0"; samplerate: "10, or the rate, which is 0 without a header"
+-- ---- format: 02, E7: "attempts a header if there is none, and answers with sample rate, kbps and mode, or with the refusal number"
 
-unfoldable pub hasHeaderOf : List ℕ → Audio → Asked
-hasHeaderOf s a =
-    cond (ltb longestStream (length s)) (asked (Refused 8) a)
-    (cond (inRange a) (cond (eqb (a .format .samplerate) 3) (attemptOf s a) (asked Known a)) (asked (Refused 10) a))
+-- samples a second, kilobits a second, and the mode as a header has it: the units of the lister's line
+abbrev pub saying : Heading → Format → Told
+saying Known f = FormatTold (rateOf (f .samplerate)) (kbpsOf (f .bitrate)) (f .mode)
+saying (Refused n) f = ToldRefused n
 
-unfoldable pub samplerateOf : Audio → Rate
-samplerateOf a = cond (inRange a) (Hertz (rateOf (a .format .samplerate))) (RateRefused 10)
+-- the position has moved if it was refused, and a header that was accepted is pending
+unfoldable pub formatOf : List ℕ → Audio → Reply
+formatOf s a = let h = knownOf s a in record { answer = saying (h .answer) (h .state .format); state = h .state }

@@ -1,4 +1,4 @@
--- What the calls' parts ask for, the calls put together from them, and their walks: 8 and 9 of an opening, 8 and 10 of a question.
+-- What the calls' parts ask for, the calls put together from them, and the walk of an opening.
 -- Assumes nothing.
 use Prim.Native.Nat.{ℕ, _+_, _*_, _≤_, _<_}
 use mathlib.Core.Path.{_≡_, refl, sym, ap, _∙_, subst}
@@ -9,7 +9,7 @@ use lib.ListN.{length, drop}
 use lib.IntN.{pos}
 use lib.Ieee.{Float, fin}
 use lib.Dec.{eqb, ltb}
-use borrow.Author.Tests.{ltb-true, ltb-false, eqb-true, eqb-false, ne-eqb}
+use borrow.Author.Tests.{ltb-true, ltb-false, ne-eqb}
 use Rattle.ground.specs.Tests.{by-test}
 use Rattle.ground.specs.Table.{length-table}
 use Rattle.buffer.specs.Bits.{longestStream}
@@ -23,13 +23,14 @@ use Rattle.frame.specs.Frame.{Fit, codesIn, granulesAt}
 use Rattle.state.specs.State.{fresh, inRange}
 use Rattle.state.specs.StateLaws.{Ranged}
 use Rattle.state.specs.declared.Audio.{Audio}
-use Rattle.verdict.specs.Verdict.{asked, attemptOf, unlessAtOnce, readyOf}
-use Rattle.verdict.specs.VerdictLaws.{Verdict, at-once, no-header, cut-off, whole, verdict-holds, heads-kept}
+use Rattle.verdict.specs.Verdict.{asked, attemptOf, unlessAtOnce, readyOf, knownOf}
+use Rattle.verdict.specs.VerdictLaws.{Verdict, at-once, no-header, cut-off, whole, verdict-holds, heads-kept, by-asking, known-ranged, refuses-at-once, asks-on}
 use Rattle.verdict.specs.declared.Heading.the-variants.{Known, Refused}
 use Rattle.verdict.specs.declared.Asked.{Asked}
-use Rattle.audio.specs.Calls.{blank, noRoomOf, openOf, openMemory, hasHeaderOf, afterOf, framedOf, framedMemory, framedOutput, decodeOf, decodeMemory, decodeOutput}
+use Rattle.audio.specs.Calls.{blank, noRoomOf, openOf, openMemory, saying, formatOf, afterOf, framedOf, framedMemory, framedOutput, decodeOf, decodeMemory, decodeOutput}
 use Rattle.audio.specs.declared.Answer.the-variants.{Refused as AnswerRefused}
 use Rattle.audio.specs.declared.Decoded.{Decoded}
+use Rattle.audio.specs.declared.Told.{Told}
 
 -- ---- a header pending, and its data there
 
@@ -80,7 +81,7 @@ pub blank-length : length blank ≡ memoryLength
 unfolding blank
 blank-length = length-table memoryLength (λ _. fin false 0 (pos 0))
 
--- ---- the walks of an opening and of a question
+-- ---- the walk of an opening
 
 -- the tests of an opening, for what holds of the number that they give
 by-room : (s : List ℕ) (memory : ℕ) (P : ℕ → Type 0) → (longestStream < length s → P 8) → (length s ≤ longestStream → memory < memoryLength → P 9)
@@ -104,18 +105,12 @@ pub long-enough : (s : List ℕ) (memory n : ℕ) → n ≡ noRoomOf s memory �
 long-enough s memory n e none =
     by-room s memory (λ k. k ≡ 0 → memoryLength ≤ memory) (λ _ z. absurd (omega arith)) (λ _ _ z. absurd (omega arith)) (λ _ k _. k) (sym e ∙ none)
 
-pub by-asking : (s : List ℕ) (a : Audio) (Q : Asked → Type 0)
-    → (longestStream < length s → Q (asked (Refused 8) a))
-    → (length s ≤ longestStream → inRange a ≡ false → Q (asked (Refused 10) a))
-    → (length s ≤ longestStream → inRange a ≡ true → (a .format .samplerate ≡ 3 → ⊥) → Q (asked Known a))
-    → (length s ≤ longestStream → inRange a ≡ true → a .format .samplerate ≡ 3 → Q (attemptOf s a))
-    → Q (hasHeaderOf s a)
-unfolding hasHeaderOf
-by-asking s a Q eight ten known sought =
-    by-test Q (ltb longestStream (length s)) _ _ (λ l. eight (ltb-true _ _ l))
-    (λ l. by-test Q (inRange a) _ _
-    (λ r. by-test Q (eqb (a .format .samplerate) 3) _ _ (λ e. sought (ltb-false _ _ l) r (eqb-true _ _ e)) (λ e. known (ltb-false _ _ l) r (eqb-false _ _ e)))
-    (λ r. ten (ltb-false _ _ l) r))
+-- ---- what holds of the state, and of the one that an attempt leaves, holds of the one that a question leaves
+
+pub question-leaves : (s : List ℕ) (a : Audio) (P : Audio → Type 0) → P a
+    → (length s ≤ longestStream → inRange a ≡ true → a .format .samplerate ≡ 3 → P (attemptOf s a .state)) → P (formatOf s a .state)
+unfolding formatOf
+question-leaves s a P same sought = by-asking s a (λ (x : Asked). P (x .state)) (λ _. same) (λ _ _. same) (λ _ _ _. same) sought
 
 -- ---- the calls, put together from their parts: laws over plain variables
 
@@ -123,8 +118,7 @@ module _ (reading : Reading) (s : List ℕ) (memory : List Float) (a : Audio) (i
   pub no-room : (n ≡ 0 → ⊥) → (asked (Refused n) a ≡ openOf reading s memory) × (memory ≡ openMemory s memory)
   unfolding openOf openMemory
   no-room some = (
-    ap (asked (Refused n)) is ∙ ap (λ t. cond t (attemptOf s (fresh reading)) (asked (Refused n) (fresh reading))) (sym (ne-eqb n 0 some))
-        ∙ ap (λ k. unlessAtOnce k (fresh reading) (attemptOf s (fresh reading))) room,
+    ap (asked (Refused n)) is ∙ refuses-at-once _ n room (fresh reading) (attemptOf s (fresh reading)) some,
     ap (λ t. cond t (blank ++ drop memoryLength memory) memory) (sym (ne-eqb n 0 some))
         ∙ ap (λ k. cond (eqb k 0) (blank ++ drop memoryLength memory) memory) room,
   )
@@ -133,7 +127,7 @@ module _ (reading : Reading) (s : List ℕ) (memory : List Float) (a : Audio) (i
       → (x ≡ openOf reading s memory) × (v ++ drop memoryLength memory ≡ openMemory s memory)
   unfolding openOf openMemory
   opens none v x e f = (
-    f ∙ ap (attemptOf s) is ∙ ap (λ k. unlessAtOnce k (fresh reading) (attemptOf s (fresh reading))) (sym none ∙ room),
+    asks-on _ n room (fresh reading) (attemptOf s (fresh reading)) none x (f ∙ ap (attemptOf s) is),
     ap (λ z. z ++ drop memoryLength memory) e ∙ ap (λ k. cond (eqb k 0) (blank ++ drop memoryLength memory) memory) (sym none ∙ room),
   )
 
@@ -154,6 +148,17 @@ module _ (s : List ℕ) (a : Audio) (end : Reader) (ring : ℕ) (is : end ≡ gr
   pub frames : (x : Decoded) → x ≡ afterOf s a end ring → x ≡ framedOf s a
   unfolding framedOf
   frames x e = e ∙ ap (λ z. afterOf s a z ring) is ∙ ap (afterOf s a _) at
+
+module _ (s : List ℕ) (a : Audio) (h : Asked) (is : h ≡ knownOf s a) where
+  -- the tables have a row for the format that is told
+  pub told-fits : h .answer ≡ Known → (h .state .format .samplerate < 4) × (h .state .format .bitrate < 14)
+  told-fits k =
+      let r = known-ranged s a (sym (ap (λ (x : Asked). x .answer) is) ∙ k) .0 in
+      rw is (omega arith, omega arith)
+
+  pub tells : (t : Told) → t ≡ saying (h .answer) (h .state .format) → record { answer = t; state = h .state } ≡ formatOf s a
+  unfolding formatOf
+  tells t e = rw (← is, e)
 
 module _ (s : List ℕ) (memory output : List Float) (a : Audio) (r : Asked) (is : r ≡ readyOf s (length memory) (length output) a) where
   pub decodes : r .answer ≡ Known → (x : Decoded) (m o : List Float) → x ≡ framedOf s (r .state) → m ≡ framedMemory s (r .state) memory

@@ -6,8 +6,8 @@ use lib.IntN.{pos}
 use lib.Ieee.{Float, fin}
 use Rattle.verdict.specs.declared.Heading.{Heading}
 use Rattle.verdict.specs.declared.Heading.the-variants.{Known, Refused}
-use Rattle.audio.specs.declared.Rate.{Rate}
-use Rattle.audio.specs.declared.Rate.the-variants.{Hertz, Refused as RateRefused}
+use Rattle.audio.specs.declared.Told.{Told}
+use Rattle.audio.specs.declared.Told.the-variants.{Format, Refused as ToldRefused}
 use Rattle.audio.specs.declared.Answer.{Answer}
 use Rattle.audio.specs.declared.Answer.the-variants.{Frame, Refused as AnswerRefused}
 
@@ -15,18 +15,26 @@ abbrev pub headingNumber : Heading → ℕ
 headingNumber Known = 0
 headingNumber (Refused n) = n
 
-abbrev pub rateNumber : Rate → ℕ
-rateNumber (Hertz rate) = 0
-rateNumber (RateRefused n) = n
+abbrev pub toldNumber : Told → ℕ
+toldNumber (Format rate kbps mode) = 0
+toldNumber (ToldRefused n) = n
 
 abbrev pub answerNumber : Answer → ℕ
 answerNumber (Frame time bits) = 0
 answerNumber (AnswerRefused n) = n
 
--- samples a second; 0 beside a refusal
-abbrev pub rateHertz : Rate → ℕ
-rateHertz (Hertz rate) = rate
-rateHertz (RateRefused n) = 0
+-- samples a second, kilobits a second, and the mode; zeros beside a refusal
+abbrev pub toldRate : Told → ℕ
+toldRate (Format rate kbps mode) = rate
+toldRate (ToldRefused n) = 0
+
+abbrev pub toldKbps : Told → ℕ
+toldKbps (Format rate kbps mode) = kbps
+toldKbps (ToldRefused n) = 0
+
+abbrev pub toldMode : Told → ℕ
+toldMode (Format rate kbps mode) = mode
+toldMode (ToldRefused n) = 0
 
 -- a frame's start in seconds, and the bits that it used; zeros beside a refusal
 abbrev pub answerStart : Answer → Float

@@ -1,23 +1,32 @@
-// The decoder's four public calls: audio.rs's `Audio`, its state by value, its memory and output lent. None refuses silently.
+// The decoder's three public calls: audio.rs's `Audio`, its state by value, its memory and output lent. None refuses silently.
 use buffer::LONGEST_STREAM;
 use buffer::Moved;
 use buffer::Reader;
+use header::Format;
 use header::Reading;
 use state::Audio;
 use synthesis::MEMORY;
 use verdict::Asked;
 use verdict::Heading;
 ghost use mathlib.Core.Path.{_≡_};
-ghost use Prim.Native.Nat.{_≤_};
+ghost use Prim.Native.Nat.{_≤_, _<_};
 ghost use lib.ListN.{length};
 ghost use Rattle.synthesis.specs.Slots.{memoryLength, outputLength};
-ghost use Rattle.audio.specs.Calls.{alignedOf, afterOf, framedOf, framedMemory, framedOutput, decodeOf, decodeMemory, decodeOutput, noRoomOf, openOf, openMemory, blank, hasHeaderOf, samplerateOf};
+ghost use Rattle.verdict.specs.declared.Heading.the-variants.{Known};
+ghost use Rattle.audio.specs.Calls.{alignedOf, afterOf, framedOf, framedMemory, framedOutput, decodeOf, decodeMemory, decodeOutput, noRoomOf, openOf, openMemory, blank, saying, formatOf};
 ghost use Rattle.audio.specs.CallsLaws.{Ready, Ended};
 ghost use Rattle.audio.specs.Numbers.{ends as endsBy};
 
-pub enum Rate {
-    Hertz(u32),
+// A format in the lister's units: samples a second, kilobits a second, and the mode (0 stereo, 1 joint stereo, 2 two channels,
+// 3 mono). Or a number.
+pub enum Told {
+    Format { rate: u32, kbps: u32, mode: u32 },
     Refused(u32),
+}
+
+pub struct Reply {
+    pub answer: Told,
+    pub state: Audio,
 }
 
 // A frame with its start time in seconds and the bits it used, or a number.
@@ -130,41 +139,33 @@ pub fn new(stream: &[u8], memory: &mut [f32], reading: Reading) -> Asked
     verdict::attempt(state, stream)
 }
 
-// Whether a header is known, or the next attempt finds one.
-pub fn has_header(a: Audio, stream: &[u8]) -> Asked
-    ensures { λ x. ⌜ x ≡ hasHeaderOf (now (stream .entry)) a ⌝ }
+fn say(h: Heading, f: Format) -> Told
+    requires { ⌜ (h ≡ Known → (f .samplerate < 4) × (f .bitrate < 14)) ⌝ }
+    ensures { λ t. ⌜ t ≡ saying h f ⌝ }
 {
-    if LONGEST_STREAM < stream.len() {
-        return Asked {
-            answer: Heading::Refused(8),
-            state: a,
-        };
-    }
-    if state::in_range(a) {
-        let f = a.format;
-        if f.samplerate == 3 {
-            return verdict::attempt(a, stream);
-        }
-        return Asked {
-            answer: Heading::Known,
-            state: a,
-        };
-    }
-    Asked {
-        answer: Heading::Refused(10),
-        state: a,
+    match h {
+        Heading::Known => Told::Format {
+            rate: tables::rate(f.samplerate),
+            kbps: tables::kbps(f.bitrate),
+            mode: f.mode,
+        },
+        Heading::Refused(number) => Told::Refused(number),
     }
 }
 
-// Samples a second; 0 before any header.
-pub fn samplerate(a: Audio) -> Rate
-    ensures { λ x. ⌜ x ≡ samplerateOf a ⌝ }
+// The stream's format: the one that is known, or else the next attempt's. A header that the attempt accepts is pending, so `decode`
+// does not seek it again.
+pub fn format(a: Audio, stream: &[u8]) -> Reply
+    ensures { λ x. ⌜ x ≡ formatOf (now (stream .entry)) a ⌝ }
 {
-    if state::in_range(a) {
-        let f = a.format;
-        return Rate::Hertz(tables::rate(f.samplerate));
+    let h = verdict::known(a, stream);
+    let heading = h.answer;
+    let state = h.state;
+    let format = state.format;
+    Reply {
+        answer: say(heading, format),
+        state,
     }
-    Rate::Refused(10)
 }
 
 // The next frame, or a number.

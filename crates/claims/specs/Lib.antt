@@ -1,5 +1,6 @@
 pub mod Reader
 pub mod Numbers
+pub mod Asking
 pub mod Untouched
 pub mod Settled
 pub mod Standard

@@ -31,14 +31,14 @@ use Rattle.header.specs.Readings.{plain}
 use Rattle.state.specs.State.{fresh}
 use Rattle.verdict.specs.Verdict.{seeking, attemptOf}
 use Rattle.audio.specs.Calls.{decodeMemory, openOf, openMemory, noRoomOf}
-use Rattle.audio.specs.CallsLaws.{by-asking, by-opening}
+use Rattle.audio.specs.CallsLaws.{question-leaves, by-opening}
 use Rattle.state.specs.declared.Audio.{Audio}
 use Rattle.verdict.specs.declared.Asked.{Asked}
 use Rattle.verdict.specs.declared.Heading.{Heading}
 use Rattle.verdict.specs.declared.Heading.the-variants.{Known, Refused}
 use Rattle.clip.specs.Frames.{Heard, quiet, clipOf}
 use Rattle.clip.specs.File.{fileOf}
-use Rattle.past.specs.Pasts.{Past, opened, asked, rated, decoded, refused, relent}
+use Rattle.past.specs.Pasts.{Past, opened, asked, decoded, refused, relent}
 use Rattle.past.specs.Calls.{Call, outcome, newMemory, newOutput, sample, before, frameState, Accepts, granulesIn, known-leaves, accepted-known, accepted-leaves}
 use Rattle.past.specs.Ring.{ring-in-place, memory-kept-long, relent-rings}
 use Rattle.past.specs.Finite.{opened-each}
@@ -102,9 +102,7 @@ mono-rings : {a : Audio} {m : List Float} → Past a m → Mono (a .format) → 
 mono-rings (opened c s m short long) mono = opened-rings s m short long
 mono-rings (asked {a} {m} p s) mono =
     mono-rings p
-    (by-asking s a (λ (x : Asked). Mono (x .state .format) → Mono (a .format)) (λ _ h. h) (λ _ _ h. h) (λ _ _ _ h. h)
-    (λ _ _ _. was-mono (attempt-stays s a)) mono)
-mono-rings (rated p) mono = mono-rings p mono
+    (question-leaves s a (λ (b : Audio). Mono (b .format) → Mono (a .format)) (λ h. h) (λ _ _ _. was-mono (attempt-stays s a)) mono)
 mono-rings (decoded {a} {m} p s o) mono =
     let c : Call = record { stream = s; memory = m; output = o; state = a } in
     decoded-rings c p (mono-rings p (was-mono (format-stays c) mono)) mono

@@ -1,4 +1,4 @@
--- The four public calls by 01's table: each number given exactly when, what is left behind, and the order where several would hold:
+-- The three public calls by 01's table: each number given exactly when, what is left behind, and the order where several would hold:
 -- 8, 9, 10, then 1 to 6 as the header is read, then 7. Each table has its rows as constructors. Assumes nothing.
 use Prim.Native.Nat.{ℕ, _*_, _≤_, _<_}
 use mathlib.Core.Path.{_≡_, refl, sym, ap, subst, _∙_}
@@ -9,28 +9,28 @@ use native.Mathlib.Omega.{arith}
 use lib.Ieee.{Float}
 use lib.ListN.{length}
 use borrow.Author.Tests.{lt-ltb, le-ltb, eq-eqb, ne-eqb}
-use Rattle.ground.specs.Tests.{by-test}
 use Rattle.buffer.specs.Calls.{left}
 use Rattle.buffer.specs.declared.Reader.{Reader}
-use Rattle.tables.specs.Standard.{rateOf}
+use Rattle.tables.specs.Standard.{rateOf, kbpsOf}
 use Rattle.header.specs.Header.{headerOf, headerNumber}
 use Rattle.header.specs.declared.Format.{Format}
 use Rattle.header.specs.declared.Header.{Header}
 use Rattle.header.specs.declared.Header.the-variants.{Accepted, Refused as HeaderRefused}
 use Rattle.header.specs.declared.Attempt.{Attempt}
 use Rattle.state.specs.State.{fresh, inRange, standsAt, pends}
-use Rattle.verdict.specs.Verdict.{asked, seeking, tried, attemptOf}
-use Rattle.audio.specs.Calls.{answering, remembering, sounding, afterOf, framedOf, framedMemory, framedOutput, decodeOf, decodeMemory, decodeOutput, openOf, hasHeaderOf, samplerateOf, noRoomOf}
-use Rattle.audio.specs.Numbers.{headingNumber, rateNumber, answerNumber}
+use Rattle.verdict.specs.Verdict.{asked, seeking, tried, attemptOf, atOnceOf, knownOf}
+use Rattle.audio.specs.Calls.{answering, remembering, sounding, afterOf, framedOf, framedMemory, framedOutput, decodeOf, decodeMemory, decodeOutput, openOf, saying, formatOf, noRoomOf}
+use Rattle.audio.specs.Numbers.{headingNumber, toldNumber, answerNumber}
 use Rattle.state.specs.StateLaws.{ranged, in-range}
-use Rattle.audio.specs.CallsLaws.{by-asking, by-opening}
-use Rattle.verdict.specs.VerdictLaws.{Room, Called, AtOnce, Heads, Verdict, at-once, no-header, cut-off, whole, verdict-holds, verdict-only, heads-kept}
+use Rattle.audio.specs.CallsLaws.{by-opening}
+use Rattle.verdict.specs.VerdictLaws.{Room, Called, AtOnce, Heads, Verdict, at-once, no-header, cut-off, whole, verdict-holds, verdict-only, heads-kept, by-asking}
 use Rattle.header.specs.declared.Reading.{Reading}
 use Rattle.state.specs.declared.Audio.{Audio}
 use Rattle.verdict.specs.declared.Asked.{Asked}
 use Rattle.verdict.specs.declared.Heading.the-variants.{Known, Refused}
-use Rattle.audio.specs.declared.Rate.{Rate}
-use Rattle.audio.specs.declared.Rate.the-variants.{Hertz, Refused as RateRefused}
+use Rattle.audio.specs.declared.Told.{Told}
+use Rattle.audio.specs.declared.Told.the-variants.{Format as FormatTold, Refused as ToldRefused}
+use Rattle.audio.specs.declared.Reply.{Reply}
 use Rattle.audio.specs.declared.Answer.the-variants.{Refused as AnswerRefused}
 use Rattle.audio.specs.declared.Decoded.{Decoded}
 use Rattle.ground.specs.Rows.{TableOf, exactly, never}
@@ -183,40 +183,65 @@ module _ (s : List ℕ) (a : Audio) (short : length s ≤ longestStream) (within
   tried-only {x = x} t =
       (sym (attempted s a short within t), tried-number (x .header) (x .next) ∙ rows s a short within .only t .1)
 
--- ---- has_header: "8, 10, then 0 if a header is known, else 1 to 5 or 0"
+-- ---- format: "8, 10, then 0 if a header is known, else 1 to 5 or 0" (01); "sample rate, kbps and mode, or .. the refusal number" (02, E7)
 
-pub data Asks (s : List ℕ) (a : Audio) : ℕ → Asked → Type 0 where
-  eight : longestStream < length s → Asks s a 8 (asked (Refused 8) a)
-  ten : length s ≤ longestStream → inRange a ≡ false → Asks s a 10 (asked (Refused 10) a)
-  known : length s ≤ longestStream → inRange a ≡ true → (a .format .samplerate ≡ 3 → ⊥) → Asks s a 0 (asked Known a)
-  sought : {n : ℕ} {x : Attempt} → length s ≤ longestStream → inRange a ≡ true → a .format .samplerate ≡ 3
-      → Attempts s (a .reader) (a .format) n x → Asks s a n (tried a x)
+-- the format in the units of the lister's line
+abbrev pub told : Format → Told
+told f = FormatTold (rateOf (f .samplerate)) (kbpsOf (f .bitrate)) (f .mode)
 
-pub has-header-table : (s : List ℕ) (a : Audio) → TableOf (λ (x : Asked). headingNumber (x .answer)) (hasHeaderOf s a) (Asks s a)
-unfolding hasHeaderOf
-has-header-table s a = record { holds = stands; only = only }
-  where
-    Stands : Asked → Type 0
-    Stands x = Asks s a (headingNumber (x .answer)) x
+abbrev pub unanswered : ℕ → Audio → Reply
+unanswered n a = record { answer = ToldRefused n; state = a }
 
-    stands : Stands (hasHeaderOf s a)
-    stands =
-        by-asking s a Stands eight ten known (λ l r e. tried-stands s a l r (Asks s a) (λ _ _ t. sought l r e t))
+pub data Asks (s : List ℕ) (a : Audio) : ℕ → Reply → Type 0 where
+  -- "same state"; also where a format is known
+  eight : longestStream < length s → Asks s a 8 (unanswered 8 a)
+  ten : length s ≤ longestStream → inRange a ≡ false → Asks s a 10 (unanswered 10 a)
+  -- known since an earlier header: nothing is sought
+  known : length s ≤ longestStream → inRange a ≡ true → (a .format .samplerate ≡ 3 → ⊥) → Asks s a 0 (record { answer = told (a .format); state = a })
+  -- sought and accepted: its header is pending
+  accepted : {f : Format} {size : ℕ} {r : Reader} → length s ≤ longestStream → inRange a ≡ true → a .format .samplerate ≡ 3
+      → Attempts s (a .reader) (a .format) 0 (record { header = Accepted f size; next = r })
+      → Asks s a 0 (record { answer = told f; state = pends r f size a })
+  -- sought and refused, 1 to 5: "position moved"; with 1 it is the same
+  sought : {n : ℕ} {r : Reader} → length s ≤ longestStream → inRange a ≡ true → a .format .samplerate ≡ 3
+      → Attempts s (a .reader) (a .format) n (refusal n r) → Asks s a n (unanswered n (standsAt r a))
 
-    only : {n : ℕ} {x : Asked} → Asks s a n x → (x ≡ hasHeaderOf s a) × (headingNumber (x .answer) ≡ n)
-    only (eight l) = (simp (lt-ltb _ _ l), refl)
-    only (ten l r) = (simp (le-ltb _ _ l, r), refl)
-    only (known l r e) = (simp (le-ltb _ _ l, r, ne-eqb _ _ e), refl)
-    only (sought l r e t) = let o = tried-only s a l r t in (simp (le-ltb _ _ l, r, eq-eqb _ _ e) (o .0), o .1)
+module _ (s : List ℕ) (a : Audio) where
+  abbrev replyTo : Asked → Reply
+  replyTo x = record { answer = saying (x .answer) (x .state .format); state = x .state }
 
-has-header-row : {s : List ℕ} {a : Audio} {n : ℕ} {x : Asked} → Asks s a n x → (n ≤ 5) ⊎ ((n ≡ 8) ⊎ (n ≡ 10))
-has-header-row (eight l) = inr (inl refl)
-has-header-row (ten l r) = inr (inr refl)
-has-header-row (known l r e) = inl (omega arith)
-has-header-row (sought l r e t) = inl (first-number e t)
+  Replies : Asked → Type 0
+  Replies x = Asks s a (toldNumber (replyTo x .answer)) (replyTo x)
 
-pub has-header-gives : (s : List ℕ) (a : Audio) → let n = headingNumber (hasHeaderOf s a .answer) in (n ≤ 5) ⊎ ((n ≡ 8) ⊎ (n ≡ 10))
-has-header-gives s a = has-header-row (has-header-table s a .holds)
+  attempt-replies : length s ≤ longestStream → inRange a ≡ true → a .format .samplerate ≡ 3 → Replies (attemptOf s a)
+  unfolding attemptOf Replies
+  attempt-replies l w e = by (headerOf s (a .reader) (a .format) .header) (headerOf s (a .reader) (a .format) .next) (rows s a l w .holds)
+    where
+      by : (h : Header) (r : Reader) → Attempts s (a .reader) (a .format) (headerNumber h) (record { header = h; next = r }) → Replies (seeking a r h)
+      by (Accepted f size) r row = accepted l w e row
+      by (HeaderRefused n) r row = sought l w e row
+
+  question-only : {n : ℕ} {x : Reply} → Asks s a n x → (x ≡ formatOf s a) × (toldNumber (x .answer) ≡ n)
+  unfolding formatOf knownOf atOnceOf
+  question-only (eight l) = (simp (lt-ltb _ _ l), refl)
+  question-only (ten l w) = (simp (le-ltb _ _ l, w), refl)
+  question-only (known l w e) = (simp (le-ltb _ _ l, w, ne-eqb _ _ e), refl)
+  question-only (accepted l w e t) = (simp (le-ltb _ _ l, w, eq-eqb _ _ e) (ap replyTo (sym (attempted s a l w t))), refl)
+  question-only (sought l w e t) = (simp (le-ltb _ _ l, w, eq-eqb _ _ e) (ap replyTo (sym (attempted s a l w t))), refl)
+
+  pub question-table : TableOf (λ (x : Reply). toldNumber (x .answer)) (formatOf s a) (Asks s a)
+  unfolding formatOf Replies
+  question-table = record { holds = by-asking s a Replies eight ten known attempt-replies; only = question-only }
+
+question-row : {s : List ℕ} {a : Audio} {n : ℕ} {x : Reply} → Asks s a n x → (n ≤ 5) ⊎ ((n ≡ 8) ⊎ (n ≡ 10))
+question-row (eight l) = inr (inl refl)
+question-row (ten l w) = inr (inr refl)
+question-row (known l w e) = inl (omega arith)
+question-row (accepted l w e t) = inl (omega arith)
+question-row (sought l w e t) = inl (first-number e t)
+
+pub question-gives : (s : List ℕ) (a : Audio) → let n = toldNumber (formatOf s a .answer) in (n ≤ 5) ⊎ ((n ≡ 8) ⊎ (n ≡ 10))
+question-gives s a = question-row (question-table s a .holds)
 
 -- ---- new: "it can give 0 to 5, 8 or 9 (memory only)"
 
@@ -252,55 +277,26 @@ opening-row (sought l m t) = inl (first-number refl t)
 pub opening-gives : (c : Reading) (s : List ℕ) (memory : List Float) → let n = headingNumber (openOf c s memory .answer) in (n ≤ 5) ⊎ ((n ≡ 8) ⊎ (n ≡ 9))
 opening-gives c s memory = opening-row (open-table c s memory .holds)
 
--- ---- samplerate: "10, or the rate, which is 0 without a header"
-
-pub data Rated (a : Audio) : ℕ → Rate → Type 0 where
-  ten : inRange a ≡ false → Rated a 10 (RateRefused 10)
-  zero : inRange a ≡ true → Rated a 0 (Hertz (rateOf (a .format .samplerate)))
-
-pub samplerate-table : (a : Audio) → TableOf rateNumber (samplerateOf a) (Rated a)
-unfolding samplerateOf
-samplerate-table a = record { holds = stands; only = only }
-  where
-    Stands : Rate → Type 0
-    Stands x = Rated a (rateNumber x) x
-
-    stands : Stands (samplerateOf a)
-    stands = by-test Stands (inRange a) _ _ (λ r. zero r) (λ r. ten r)
-
-    only : {n : ℕ} {x : Rate} → Rated a n x → (x ≡ samplerateOf a) × (rateNumber x ≡ n)
-    only (ten r) = (simp r, refl)
-    only (zero r) = (simp r, refl)
-
-pub no-header-no-rate : rateOf 3 ≡ 0
-no-header-no-rate = refl
-
 -- ---- 10 is never given by a decoder with a past, nor by an opening
 
 decode-ten : {s : List ℕ} {memory output : List Float} {a : Audio} {x : Decoded} → Decodes s memory output a 10 x → inRange a ≡ false
 decode-ten (ten l r) = r
 decode-ten (sought c e t) = absurd (let n = attempt-number t in omega arith)
 
-has-header-ten : {s : List ℕ} {a : Audio} {x : Asked} → Asks s a 10 x → inRange a ≡ false
-has-header-ten (ten l r) = r
-has-header-ten (sought l r e t) = absurd (let n = attempt-number t in omega arith)
+question-ten : {s : List ℕ} {a : Audio} {x : Reply} → Asks s a 10 x → inRange a ≡ false
+question-ten (ten l w) = w
+question-ten (sought l w e t) = absurd (let n = attempt-number t in omega arith)
 
 opening-ten : {c : Reading} {s : List ℕ} {m : List Float} {x : Asked} → Opens c s m 10 x → ⊥
 opening-ten (sought l k t) = let n = attempt-number t in omega arith
-
-samplerate-ten : {a : Audio} {x : Rate} → Rated a 10 x → inRange a ≡ false
-samplerate-ten (ten r) = r
 
 module _ {a : Audio} {m : List Float} (past : Past a m) where
   pub ten-is-never-given : (s : List ℕ) (memory output : List Float) → answerNumber (decodeOf s memory output a .answer) ≡ 10 → ⊥
   ten-is-never-given s memory output e =
       never (sound-state-in-range past) (decode-ten (exactly (decode-table s memory output a) 10 _ .0 (refl, e)))
 
-  pub has-header-never-gives-ten : (s : List ℕ) → headingNumber (hasHeaderOf s a .answer) ≡ 10 → ⊥
-  has-header-never-gives-ten s e = never (sound-state-in-range past) (has-header-ten (exactly (has-header-table s a) 10 _ .0 (refl, e)))
-
-  pub samplerate-never-gives-ten : rateNumber (samplerateOf a) ≡ 10 → ⊥
-  samplerate-never-gives-ten e = never (sound-state-in-range past) (samplerate-ten (exactly (samplerate-table a) 10 _ .0 (refl, e)))
+  pub question-never-gives-ten : (s : List ℕ) → toldNumber (formatOf s a .answer) ≡ 10 → ⊥
+  question-never-gives-ten s e = never (sound-state-in-range past) (question-ten (exactly (question-table s a) 10 _ .0 (refl, e)))
 
 pub opening-never-gives-ten : (c : Reading) (s : List ℕ) (m : List Float) → headingNumber (openOf c s m .answer) ≡ 10 → ⊥
 opening-never-gives-ten c s m e = opening-ten (exactly (open-table c s m) 10 _ .0 (refl, e))

@@ -19,11 +19,11 @@ use Rattle.header.specs.Header.{headerOf, startOf, syncOf, seekOf, fieldsOf, id
 use Rattle.clock.specs.Clock.{startTimeOf, sameBits, onTime}
 use Rattle.header.specs.Readings.{plain}
 use Rattle.state.specs.State.{fresh, numbersOk, inRange, pends, framedTo}
-use Rattle.verdict.specs.Verdict.{attemptOf, headedOf, enoughOf, readyOf, atOnceOf}
-use Rattle.audio.specs.Calls.{answering, afterOf, framedOf, decodeOf, blank, openOf, openMemory, noRoomOf, hasHeaderOf, samplerateOf}
+use Rattle.verdict.specs.Verdict.{attemptOf, headedOf, enoughOf, readyOf, atOnceOf, knownOf}
+use Rattle.audio.specs.Calls.{answering, afterOf, framedOf, decodeOf, blank, openOf, openMemory, noRoomOf, formatOf}
 use Rattle.audio.specs.Numbers.{headingNumber, answerNumber}
 use Rattle.state.specs.declared.Audio.{Audio}
-use Rattle.audio.specs.declared.Rate.the-variants.{Hertz, Refused as RateRefused}
+use Rattle.audio.specs.declared.Told.the-variants.{Format as FormatTold, Refused as ToldRefused}
 use Rattle.verdict.specs.declared.Heading.{Heading}
 use Rattle.verdict.specs.declared.Heading.the-variants.{Known, Refused}
 use Rattle.listing.specs.Lines.{nextOf}
@@ -72,7 +72,7 @@ unfolding readyOf atOnceOf headedOf attemptOf enoughOf fresh inRange numbersOk o
     modeOf boundOf checkOf sizeOf
 numbers-occur = refl
 
--- an opening gives 0 to 5 and 9 (memory only), a question 0 to 5 and 10, samplerate a rate, none, and 10
+-- an opening gives 0 to 5 and 9 (memory only), a question tells a format or gives 1 to 5 and 10
 abbrev firsts : List (List ℕ)
 firsts =
     (header ++ replicate 2 0) ∷ [] ∷ (1 ∷ replicate 5 0) ∷ (0xFF ∷ 0xFB ∷ replicate 4 0) ∷ (0xFF ∷ 0xFD ∷ replicate 4 0)
@@ -84,15 +84,21 @@ unfolding openOf noRoomOf attemptOf fresh headerOf startOf syncOf seekOf searchO
     fieldsOf identOf ratesOf restOf modeOf boundOf checkOf sizeOf
 openings-occur = refl
 
-pub questions-occur : map (λ s. headingNumber (hasHeaderOf s (fresh plain) .answer)) firsts ++ (headingNumber (hasHeaderOf [] broken .answer) ∷ [])
-    ≡ 0 ∷ 1 ∷ 2 ∷ 3 ∷ 4 ∷ 5 ∷ 10 ∷ []
-unfolding hasHeaderOf attemptOf fresh inRange numbersOk onTime sameBits startTimeOf isNan toBits div ofInt headerOf startOf syncOf seekOf searchOf hasOf
-    skipBytesOf fieldOf readOf bitsValue bitAt firstFrom run _>>=_ fieldsOf identOf ratesOf restOf modeOf boundOf checkOf sizeOf
+pub questions-occur : map (λ s. formatOf s (fresh plain) .answer) firsts ++ (formatOf [] broken .answer ∷ [])
+    ≡ FormatTold 44100 192 0 ∷ ToldRefused 1 ∷ ToldRefused 2 ∷ ToldRefused 3 ∷ ToldRefused 4 ∷ ToldRefused 5 ∷ ToldRefused 10 ∷ []
+unfolding formatOf knownOf atOnceOf attemptOf fresh inRange numbersOk onTime sameBits startTimeOf isNan toBits div ofInt headerOf startOf syncOf seekOf
+    searchOf hasOf skipBytesOf fieldOf readOf bitsValue bitAt firstFrom run _>>=_ fieldsOf identOf ratesOf restOf modeOf boundOf checkOf sizeOf
 questions-occur = refl
 
-pub rates-occur : samplerateOf begun ∷ samplerateOf (fresh plain) ∷ samplerateOf broken ∷ [] ≡ Hertz 44100 ∷ Hertz 0 ∷ RateRefused 10 ∷ []
-unfolding samplerateOf fresh inRange numbersOk onTime sameBits startTimeOf isNan toBits div ofInt
-rates-occur = refl
+-- 64 kbps, 48,000 Hz, mono
+abbrev spoken : List ℕ
+spoken = 0xFF ∷ 0xFD ∷ 0x44 ∷ 0xC0 ∷ 0 ∷ 0 ∷ []
+
+-- each of the three values is told, and a format that is known is told whatever follows in the stream
+pub formats-occur : (formatOf spoken (fresh plain) .answer ≡ FormatTold 48000 64 3) × (formatOf spoken begun ≡ record { answer = FormatTold 44100 32 0; state = begun })
+unfolding formatOf knownOf atOnceOf attemptOf fresh inRange numbersOk onTime sameBits startTimeOf isNan toBits div ofInt headerOf startOf syncOf seekOf
+    searchOf hasOf skipBytesOf fieldOf readOf bitsValue bitAt firstFrom run _>>=_ fieldsOf identOf ratesOf restOf modeOf boundOf checkOf sizeOf
+formats-occur = (refl, refl)
 
 -- 192 kbps, 48,000 Hz, stereo, and no data
 abbrev pub cut : List ℕ
@@ -117,8 +123,8 @@ pub eight-occurs : (memory output : ℕ) (a : Audio) → verdict long memory out
 unfolding readyOf atOnceOf
 eight-occurs memory output a = simp (lt-ltb longestStream (length long) (omega (arith, long-length)))
 
-pub eight-occurs-first : (memory : List Float) (a : Audio) → (openOf plain long memory .answer ≡ Refused 8) × (hasHeaderOf long a .answer ≡ Refused 8)
-unfolding openOf noRoomOf hasHeaderOf
+pub eight-occurs-first : (memory : List Float) (a : Audio) → (openOf plain long memory .answer ≡ Refused 8) × (formatOf long a .answer ≡ ToldRefused 8)
+unfolding openOf noRoomOf formatOf knownOf atOnceOf
 eight-occurs-first memory a = let many = lt-ltb longestStream (length long) (omega (arith, long-length)) in (simp many, simp many)
 
 -- ---- a call that is lent enough, and a past

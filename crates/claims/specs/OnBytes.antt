@@ -40,11 +40,11 @@ use Rattle.verdict.specs.declared.Asked.{Asked}
 use Rattle.verdict.specs.declared.Heading.{Heading}
 use Rattle.verdict.specs.declared.Heading.the-variants.{Known, Refused}
 use Rattle.audio.specs.Calls.{answering, afterOf, framedOf, decodeOf}
-use Rattle.audio.specs.CallsLaws.{by-asking, by-opening}
+use Rattle.audio.specs.CallsLaws.{question-leaves, by-opening}
 use Rattle.audio.specs.declared.Answer.{Answer}
 use Rattle.listing.specs.declared.Line.the-variants.{Frame}
 use Rattle.listing.specs.Lines.{byteBefore, bytePosition, lineBy, nextOf}
-use Rattle.past.specs.Pasts.{Past, opened, asked as has-asked, rated, decoded, refused, relent}
+use Rattle.past.specs.Pasts.{Past, opened, asked as has-asked, decoded, refused, relent}
 use Rattle.past.specs.Calls.{Call, outcome, firstBit, Accepts, verdict-of, accepted-known}
 use Rattle.past.specs.Sound.{sound-state-in-range}
 use Rattle.claims.specs.Widths.{aligned-after-the-bits}
@@ -258,9 +258,8 @@ since-opening (opened c s m l k) =
     (λ short _. attempt-stands s short (fresh c) (omega arith) refl)
 since-opening (has-asked {a} p s) =
     let h = since-opening p in
-    by-asking s a (λ (x : Asked). Stands (x .state)) (λ _. h) (λ _ _. h) (λ _ _ _. h)
+    question-leaves s a Stands h
     (λ short r z. attempt-stands s short a (ranged a r .near) (ranged a r .known z))
-since-opening (rated p) = since-opening p
 since-opening (decoded {a} {m} p s o) = decode-stands s m o a (ranged a (sound-state-in-range p)) (since-opening p)
 since-opening (refused {a} p s other o n e) = decode-stands s other o a (ranged a (sound-state-in-range p)) (since-opening p)
 since-opening (relent p more) = since-opening p

@@ -19,10 +19,11 @@ use Rattle.clock.specs.Clock.{startTimeOf}
 use Rattle.state.specs.State.{inRange}
 use Rattle.state.specs.declared.Audio.{Audio}
 use Rattle.verdict.specs.declared.Asked.{Asked}
-use Rattle.audio.specs.Calls.{openOf, openMemory, hasHeaderOf, samplerateOf, decodeOf}
-use Rattle.audio.specs.Numbers.{headingNumber, rateNumber, answerNumber, ends}
+use Rattle.audio.specs.Calls.{openOf, openMemory, formatOf, decodeOf}
+use Rattle.audio.specs.Numbers.{headingNumber, toldNumber, answerNumber, ends}
 use Rattle.audio.specs.declared.Answer.the-variants.{Refused}
 use Rattle.audio.specs.declared.Decoded.{Decoded}
+use Rattle.audio.specs.declared.Reply.{Reply}
 use Rattle.tables.specs.Standard.{Table, stepsOf}
 use Rattle.tables.specs.Differences.{differsAt}
 use Rattle.standard.specs.Header.{HeaderFields, allocationTable}
@@ -33,7 +34,7 @@ use Rattle.past.specs.Pasts.{Past}
 use Rattle.past.specs.Calls.{Call, outcome, newMemory, newOutput, sample, frameState, firstBit, bitsCalled, Accepts, endOf}
 use Rattle.past.specs.Sound.{sound-state-in-range, time-by-frames}
 use Rattle.past.specs.Finite.{BitForBit}
-use Rattle.claims.specs.Numbers.{Decodes, decode-table, Opens, open-table, Asks, has-header-table, Rated, samplerate-table}
+use Rattle.claims.specs.Numbers.{Decodes, decode-table, Opens, open-table, Asks, question-table}
 use Rattle.claims.specs.Untouched.{refused-call-leaves-all, opening-clears}
 use Rattle.claims.specs.Settled.{Rests, an-end-lasts}
 use Rattle.claims.specs.Standard.{readingOver, ReadAs, unlisted-reads-the-same, ReadByItsFormat, accepted-as-the-standard, On, StandardsFrame, accepted-frames-are-the-standards}
@@ -46,8 +47,7 @@ pub record Demand1 : Type 0 where
   pub decode-has-its-number : (c : Call)
       → TableOf (λ (x : Decoded). answerNumber (x .answer)) (outcome c) (Decodes (c .stream) (c .memory) (c .output) (c .state))
   pub opening-has-its-number : (r : Reading) (s : List ℕ) (m : List Float) → TableOf (λ (x : Asked). headingNumber (x .answer)) (openOf r s m) (Opens r s m)
-  pub question-has-its-number : (s : List ℕ) (a : Audio) → TableOf (λ (x : Asked). headingNumber (x .answer)) (hasHeaderOf s a) (Asks s a)
-  pub rate-has-its-number : (a : Audio) → TableOf rateNumber (samplerateOf a) (Rated a)
+  pub question-has-its-number : (s : List ℕ) (a : Audio) → TableOf (λ (x : Reply). toldNumber (x .answer)) (formatOf s a) (Asks s a)
   -- "Nothing relies on the caller having looked first."
   pub no-call-leads-out-of-range : {a : Audio} {m : List Float} → Past a m → inRange a ≡ true
   pub an-end-is-one-for-ever : (s : List ℕ) (m o : List Float) (a : Audio) → let x = decodeOf s m o a in
@@ -63,8 +63,7 @@ demand-1 =
     record {
       decode-has-its-number = λ c. decode-table (c .stream) (c .memory) (c .output) (c .state);
       opening-has-its-number = open-table;
-      question-has-its-number = has-header-table;
-      rate-has-its-number = samplerate-table;
+      question-has-its-number = question-table;
       no-call-leads-out-of-range = sound-state-in-range;
       an-end-is-one-for-ever = an-end-lasts;
       refused-leaves-all = λ c. refused-call-leaves-all (c .stream) (c .memory) (c .output) (c .state);

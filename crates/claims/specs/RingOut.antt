@@ -19,14 +19,14 @@ use Rattle.window.specs.Output.{Place}
 use Rattle.synthesis.specs.Slots.{positionAfter, ringOf, memoryAfter, outputAfter, outputLength, memoryLength}
 use Rattle.synthesis.specs.Wash.{ring-washed, output-washed, output-by-rings}
 use Rattle.frame.specs.Frame.{codesIn, granulesAt, slotsOf}
-use Rattle.audio.specs.Calls.{decodeOf, hasHeaderOf}
+use Rattle.audio.specs.Calls.{decodeOf, formatOf}
 use Rattle.state.specs.declared.Audio.{Audio}
 use Rattle.verdict.specs.Verdict.{asked as stands}
 use Rattle.verdict.specs.declared.Asked.{Asked}
 use Rattle.verdict.specs.declared.Heading.the-variants.{Known}
 use Rattle.audio.specs.declared.Answer.the-variants.{Refused as AnswerRefused}
-use Rattle.past.specs.Pasts.{Past, asked, rated, decoded, refused, relent}
-use Rattle.past.specs.Calls.{has-header-keeps, Call, outcome, newMemory, newOutput, sample, before, frameState, firstBit, bitsCalled, Accepts, before-keeps, accepted-known, known-accepted, granulesIn, Leaves, accepted-leaves, accepted-bits, refused-keeps}
+use Rattle.past.specs.Pasts.{Past, asked, decoded, refused, relent}
+use Rattle.past.specs.Calls.{question-keeps, Call, outcome, newMemory, newOutput, sample, before, frameState, firstBit, bitsCalled, Accepts, before-keeps, accepted-known, known-accepted, granulesIn, Leaves, accepted-leaves, accepted-bits, refused-keeps}
 use Rattle.past.specs.Sound.{sound, sound-state-in-range, frame-has-extension}
 use Rattle.past.specs.Ring.{ring-by-frames, memory-kept-long, relent-rings}
 use Rattle.past.specs.Finite.{samples-finite, samples-fit, BitForBit, equal-values-equal-bits}
@@ -268,11 +268,10 @@ module _ {c d : Call} (past : Past (c .state) (c .memory)) (past′ : Past (d .s
 
 -- ---- and after it
 
--- a call that accepts no frame: has_header, samplerate, a decode call that gives a number, whatever memory it was lent; and between
+-- a call that accepts no frame: a question about the format, a decode call that gives a number, whatever memory it was lent; and between
 -- calls the lent slice may change behind the memory
 pub data Passes (a : Audio) (m : List Float) : Audio → List Float → Type 0 where
-  asks : (s : List ℕ) → Passes a m (hasHeaderOf s a .state) m
-  rates : Passes a m a m
+  asks : (s : List ℕ) → Passes a m (formatOf s a .state) m
   refuses : (s : List ℕ) (other o : List Float) (number : ℕ) → decodeOf s other o a .answer ≡ AnswerRefused number → Passes a m (decodeOf s other o a .state) m
   lends : (more : List Float) → Passes a m a (take memoryLength m ++ more)
 
@@ -289,7 +288,6 @@ pub data Together : Audio → List Float → Audio → List Float → Type 0 whe
 -- such a call is one of a past's, and leaves what the synthesis sees
 passed : {a b : Audio} {m n : List Float} → Past a m → Passes a m b n → Past b n
 passed p (asks s) = asked p s
-passed p rates = rated p
 passed p (refuses s other o k e) = refused p s other o k e
 passed p (lends more) = relent p more
 
@@ -306,8 +304,7 @@ past-other (other-passes t x) = passed (past-other t) x
 past-other (again c d t e) = decoded (past-other t) (d .stream) (d .output)
 
 passed-keeps : {a b : Audio} {m n : List Float} → Past a m → Passes a m b n → Joined b n a m
-passed-keeps {a} p (asks s) = record { ring = has-header-keeps s a .ring; rings = λ channel two. refl }
-passed-keeps p rates = record { ring = refl; rings = λ channel two. refl }
+passed-keeps {a} p (asks s) = record { ring = question-keeps s a .ring; rings = λ channel two. refl }
 passed-keeps {a} p (refuses s other o k e) =
     record { ring = refused-keeps (record { stream = s; memory = other; output = o; state = a }) k e .ring; rings = λ channel two. refl }
 passed-keeps {a} {b} {m} p (lends more) =

@@ -14,9 +14,9 @@ use lib.ListN.{length}
 use Rattle.buffer.specs.Calls.{left}
 use Rattle.state.specs.State.{inRange}
 use Rattle.state.specs.StateLaws.{ranged}
-use Rattle.verdict.specs.Verdict.{tried}
-use Rattle.verdict.specs.declared.Asked.{Asked}
-use Rattle.audio.specs.Calls.{decodeOf, hasHeaderOf}
+use Rattle.verdict.specs.Verdict.{tried, attemptOf}
+use Rattle.audio.specs.Calls.{decodeOf, formatOf}
+use Rattle.audio.specs.CallsLaws.{question-leaves}
 use Rattle.audio.specs.Numbers.{answerNumber, ends, callersMistake}
 use lib.Dec.{eqb}
 use borrow.Author.Tests.{eqb-true, eqb-false}
@@ -25,8 +25,10 @@ use Rattle.ground.specs.Rows.{never}
 use Rattle.state.specs.declared.Audio.{Audio}
 use Rattle.audio.specs.declared.Decoded.{Decoded}
 use Rattle.ground.specs.Rows.{exactly}
-use Rattle.header.specs.Attempts.{one, attempt-number, attempt-table}
-use Rattle.claims.specs.Numbers.{Lent, InOrder, waits, Decodes, eight, nine, ten, sought, seven, zero as frame, refused, decode-table, Asks, has-header-table, pending-within}
+use Rattle.header.specs.Attempts.{one, attempt-number}
+use Rattle.header.specs.Moves.{few-bits-stay}
+use Rattle.header.specs.declared.Attempt.{Attempt}
+use Rattle.claims.specs.Numbers.{Lent, InOrder, waits, Decodes, eight, nine, ten, sought, seven, zero as frame, refused, decode-table, pending-within}
 use Rattle.past.specs.Moves.{call-moves}
 use Rattle.past.specs.Sound.{decode-stays-in-range}
 
@@ -40,7 +42,15 @@ Settled s n a = (memory output : List Float) → Lent s memory output → decode
 pub record Rests (s : List ℕ) (n : ℕ) (a : Audio) : Type 0 where
   pub repeats : Settled s n a
   pub decodes : (memory output : List Float) → decodeOf s memory output a .state ≡ a
-  pub asks : hasHeaderOf s a .state ≡ a
+  pub asks : formatOf s a .state ≡ a
+
+-- a question leaves it, where a format is known or fewer than 48 bits remain
+asking-stays : (s : List ℕ) (a : Audio) → ((a .format .samplerate ≡ 3 → ⊥) ⊎ (left s (a .reader) < 48)) → formatOf s a .state ≡ a
+unfolding attemptOf
+asking-stays s a (inl knows) = question-leaves s a (λ (b : Audio). b ≡ a) refl (λ _ _ none. absurd (knows none))
+asking-stays s a (inr few) =
+    question-leaves s a (λ (b : Audio). b ≡ a) refl
+    (λ short w _. ap (λ (t : Attempt). tried a t .state) (few-bits-stay s (a .reader) (a .format) short (ranged a w .near) few))
 
 module _ {s : List ℕ} {a : Audio} where
   decode-stays : {n k : ℕ} → Settled s n a → (memory output : List Float) {x : Decoded} → Decodes s memory output a k x
@@ -52,22 +62,12 @@ module _ {s : List ℕ} {a : Audio} where
   decode-stays h memory output (seven c b l) e = ap (λ x. x .state) (e ∙ h memory output (c .room))
   decode-stays h memory output (frame c b l) e = ap (λ x. x .state) (e ∙ h memory output (c .room))
 
-  -- a question, where a header is known or fewer than 48 bits remain
-  asking-stays : {n : ℕ} {x : Asked} → ((a .format .samplerate ≡ 3 → ⊥) ⊎ (left s (a .reader) < 48)) → Asks s a n x → x .state ≡ a
-  asking-stays why (Asks.eight l) = refl
-  asking-stays why (Asks.ten l r) = refl
-  asking-stays why (Asks.known l r e) = refl
-  asking-stays (inl knows) (Asks.sought l r e t) = absurd (knows e)
-  asking-stays (inr few) (Asks.sought l r e t) =
-      let table = attempt-table s (a .reader) l (ranged a r .near) (a .format) in
-      ap (λ x. tried a x .state) (table .only t .0 ∙ sym (table .only (one few) .0))
-
   rests : {n : ℕ} → Settled s n a → ((a .format .samplerate ≡ 3 → ⊥) ⊎ (left s (a .reader) < 48)) → Rests s n a
   rests h why =
       record {
         repeats = h;
         decodes = λ memory output. decode-stays h memory output (decode-table s memory output a .holds) refl;
-        asks = asking-stays why (has-header-table s a .holds);
+        asks = asking-stays s a why;
       }
 
 module _ {s : List ℕ} {memory output : List Float} {a : Audio} where

@@ -41,9 +41,9 @@ use Rattle.verdict.specs.VerdictLaws.{waits, accepts, Verdict, at-once, no-head
 use Rattle.verdict.specs.declared.Asked.{Asked}
 use Rattle.verdict.specs.declared.Heading.{Heading}
 use Rattle.verdict.specs.declared.Heading.the-variants.{Known, Refused}
-use Rattle.audio.specs.Calls.{answering, afterOf, framedOf, decodeOf, openOf, hasHeaderOf}
-use Rattle.audio.specs.CallsLaws.{by-asking, by-opening}
-use Rattle.past.specs.Pasts.{Past, opened, asked as has-asked, rated, decoded, refused, relent}
+use Rattle.audio.specs.Calls.{answering, afterOf, framedOf, decodeOf, openOf, formatOf}
+use Rattle.audio.specs.CallsLaws.{question-leaves, by-opening}
+use Rattle.past.specs.Pasts.{Past, opened, asked as has-asked, decoded, refused, relent}
 use Rattle.past.specs.Calls.{Call, outcome, frameState, before, granulesIn, endOf, Accepts, accepted-known, accepted-leaves, verdict-of}
 use Rattle.past.specs.Sound.{sound-state-in-range, sound, frame-has-extension}
 
@@ -131,7 +131,6 @@ accepted-as-the-standard {c} past ok =
 unfoldable pub On : (s : List ℕ) {a : Audio} {m : List Float} → Past a m → Type 0
 On s (opened c t m l k) = t ≡ s
 On s (has-asked p t) = (t ≡ s) × On s p
-On s (rated p) = On s p
 On s (decoded p t o) = (t ≡ s) × On s p
 On s (refused p t other o n e) = (t ≡ s) × On s p
 On s (relent p more) = On s p
@@ -185,10 +184,8 @@ past-headed s (has-asked {a} p t) e =
     let r = sound-state-in-range p in
     let w = past-headed s p (e .1) in
     let w′ = subst (λ u. Pending u a) (sym (e .0)) w in
-    subst (λ u. Pending u (hasHeaderOf t a .state)) (e .0)
-    (by-asking t a (λ (x : Asked). Pending t (x .state)) (λ _. w′) (λ _ _. w′) (λ _ _ _. w′)
-    (λ _ _ unknown. attempt-headed t a (ranged a r .near) (ranged a r .known unknown)))
-past-headed s (rated p) e = past-headed s p e
+    subst (λ u. Pending u (formatOf t a .state)) (e .0)
+    (question-leaves t a (Pending t) w′ (λ _ _ unknown. attempt-headed t a (ranged a r .near) (ranged a r .known unknown)))
 past-headed s (decoded {a} {m} p t o) e =
     call-headed (record { stream = t; memory = m; output = o; state = a }) (e .0) (sound-state-in-range p) (past-headed s p (e .1))
 past-headed s (refused {a} p t other o n refuses) e =

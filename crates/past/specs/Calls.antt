@@ -13,8 +13,8 @@ use Rattle.grammar.specs.Reads.{called}
 use Rattle.synthesis.specs.Slots.{positionAfter, memoryAfter, outputAfter}
 use Rattle.frame.specs.Frame.{codesIn, granulesAt, slotsOf, frameMemory, frameOutput}
 use Rattle.verdict.specs.Verdict.{asked, readyOf}
-use Rattle.audio.specs.Calls.{afterOf, framedOf, framedMemory, framedOutput, answering, decodeOf, decodeMemory, decodeOutput, hasHeaderOf}
-use Rattle.audio.specs.CallsLaws.{Goes, goes, by-asking}
+use Rattle.audio.specs.Calls.{afterOf, framedOf, framedMemory, framedOutput, answering, decodeOf, decodeMemory, decodeOutput, formatOf}
+use Rattle.audio.specs.CallsLaws.{Goes, goes, question-leaves}
 use Rattle.verdict.specs.VerdictLaws.{Stays, stays, attempt-keeps, Verdict, verdict-holds, verdict-leaves}
 use Rattle.state.specs.declared.Audio.{Audio}
 use Rattle.verdict.specs.declared.Heading.{Heading}
@@ -24,9 +24,8 @@ use Rattle.audio.specs.declared.Decoded.{Decoded}
 use Rattle.audio.specs.declared.Answer.the-variants.{Frame, Refused as AnswerRefused}
 
 -- a question leaves frame count and ring position
-pub has-header-keeps : (s : List ℕ) (a : Audio) → Stays a (hasHeaderOf s a .state)
-has-header-keeps s a =
-    by-asking s a (λ (x : Asked). Stays a (x .state)) (λ _. stays a) (λ _ _. stays a) (λ _ _ _. stays a) (λ _ _ _. attempt-keeps s a)
+pub question-keeps : (s : List ℕ) (a : Audio) → Stays a (formatOf s a .state)
+question-keeps s a = question-leaves s a (Stays a) (stays a) (λ _ _ _. attempt-keeps s a)
 
 -- ---- a call of decode
 

@@ -8,7 +8,7 @@ use lib.Ieee.{Float}
 use lib.ListN.{length, take}
 use Rattle.synthesis.specs.Slots.{memoryLength}
 use Rattle.buffer.specs.Bits.{longestStream}
-use Rattle.audio.specs.Calls.{openOf, openMemory, hasHeaderOf, decodeOf, decodeMemory}
+use Rattle.audio.specs.Calls.{openOf, openMemory, formatOf, decodeOf, decodeMemory}
 use Rattle.header.specs.declared.Reading.{Reading}
 use Rattle.audio.specs.declared.Answer.the-variants.{Refused}
 use Rattle.state.specs.declared.Audio.{Audio}
@@ -16,8 +16,7 @@ use Rattle.state.specs.declared.Audio.{Audio}
 -- every call may be on another stream and, where it takes one, another output: too long, too short, cut, changed, or the same again
 pub data Past : Audio → List Float → Type 0 where
   opened : (c : Reading) (s : List ℕ) (m : List Float) → length s ≤ longestStream → memoryLength ≤ length m → Past (openOf c s m .state) (openMemory s m)
-  asked : {a : Audio} {m : List Float} → Past a m → (s : List ℕ) → Past (hasHeaderOf s a .state) m
-  rated : {a : Audio} {m : List Float} → Past a m → Past a m
+  asked : {a : Audio} {m : List Float} → Past a m → (s : List ℕ) → Past (formatOf s a .state) m
   decoded : {a : Audio} {m : List Float} → Past a m → (s : List ℕ) (o : List Float) → Past (decodeOf s m o a .state) (decodeMemory s m o a)
   -- a call that is refused touches no memory, so it may have been lent any other
   refused : {a : Audio} {m : List Float} → Past a m → (s : List ℕ) (other o : List Float) (n : ℕ) → decodeOf s other o a .answer ≡ Refused n

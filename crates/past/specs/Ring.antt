@@ -20,9 +20,9 @@ use Rattle.header.specs.declared.Reading.{Reading}
 use Rattle.state.specs.declared.Audio.{Audio}
 use Rattle.verdict.specs.declared.Heading.{Heading}
 use Rattle.verdict.specs.declared.Heading.the-variants.{Known, Refused}
-use Rattle.past.specs.Pasts.{Past, opened, asked, rated, decoded, refused, relent}
+use Rattle.past.specs.Pasts.{Past, opened, asked, decoded, refused, relent}
 use Rattle.verdict.specs.VerdictLaws.{Stays, attempt-keeps}
-use Rattle.past.specs.Calls.{has-header-keeps, Call, outcome, newMemory, before, frameState, before-keeps, known-leaves, refused-keeps}
+use Rattle.past.specs.Calls.{question-keeps, Call, outcome, newMemory, before, frameState, before-keeps, known-leaves, refused-keeps}
 use Rattle.past.specs.Formats.{decode-lengths}
 
 -- ---- the memory stays long enough
@@ -37,7 +37,6 @@ pub memory-kept-long : {a : Audio} {m : List Float} → Past a m → memoryLengt
 unfolding openMemory noRoomOf
 memory-kept-long (opened c s m short long) = simp (le-ltb _ _ short, le-ltb _ _ long) (omega (arith, opened-long m long))
 memory-kept-long (asked p s) = memory-kept-long p
-memory-kept-long (rated p) = memory-kept-long p
 memory-kept-long (decoded {a} {m} p s o) =
     omega (arith, memory-kept-long p, decode-lengths (record { stream = s; memory = m; output = o; state = a }) .0)
 memory-kept-long (refused p s other o n e) = memory-kept-long p
@@ -87,8 +86,7 @@ module _ (P : ℕ → ℕ → List Float → Type 0) where
 
     pub since-opening : {a : Audio} {m : List Float} → Past a m → Seen a m
     since-opening (opened c s m short long) = opened-seen c s m short long
-    since-opening (asked {a} {m} p s) = seen-stays (has-header-keeps s a) (since-opening p)
-    since-opening (rated p) = since-opening p
+    since-opening (asked {a} {m} p s) = seen-stays (question-keeps s a) (since-opening p)
     since-opening (decoded {a} {m} p s o) = decoded-seen (record { stream = s; memory = m; output = o; state = a }) (since-opening p)
     since-opening (refused {a} {m} p s other o n e) =
         seen-stays (refused-keeps (record { stream = s; memory = other; output = o; state = a }) n e) (since-opening p)

@@ -19,9 +19,9 @@ use Rattle.synthesis.specs.Ring.{place-after}
 use Rattle.frame.specs.Frame.{cutFormat, granulesAt}
 use Rattle.state.specs.State.{fresh, inRange}
 use Rattle.verdict.specs.Verdict.{readyOf}
-use Rattle.audio.specs.Calls.{alignedOf, answering, afterOf, framedOf, decodeOf, openOf, hasHeaderOf}
+use Rattle.audio.specs.Calls.{alignedOf, answering, afterOf, framedOf, decodeOf, openOf, formatOf}
 use Rattle.state.specs.StateLaws.{Ranged, ranged, in-range, fresh-ranged, framed-to-ranged}
-use Rattle.audio.specs.CallsLaws.{Ready, goes, ended, by-asking, by-opening}
+use Rattle.audio.specs.CallsLaws.{Ready, goes, ended, question-leaves, by-opening}
 use Rattle.verdict.specs.VerdictLaws.{Sound, Kept, attempt-kept, verdict-holds, verdict-kept}
 use Rattle.past.specs.Calls.{Call, frameState, Accepts, verdict-of, accepted-leaves, refused-keeps}
 use Rattle.header.specs.declared.Reading.{Reading}
@@ -32,7 +32,7 @@ use Rattle.audio.specs.declared.Decoded.{Decoded}
 use Rattle.verdict.specs.declared.Asked.{Asked}
 use Rattle.verdict.specs.declared.Heading.{Heading}
 use Rattle.verdict.specs.declared.Heading.the-variants.{Known, Refused}
-use Rattle.past.specs.Pasts.{Past, opened, asked as has-asked, rated, decoded, refused, relent}
+use Rattle.past.specs.Pasts.{Past, opened, asked as has-asked, decoded, refused, relent}
 use Rattle.frame.specs.FrameLaws.{frame-uses-16-bits}
 
 -- ---- a frame
@@ -105,10 +105,8 @@ decode-leads s m o a w = go (r .answer) refl
 stays-leads : (a : Audio) → Ranged a → Leads a a 0
 stays-leads a w = record { ranged = w; sound = λ h. h; frames = sym (add-zero _) }
 
-has-header-leads : (s : List ℕ) (a : Audio) → Ranged a → Leads a (hasHeaderOf s a .state) 0
-has-header-leads s a w =
-    let same = stays-leads a w in
-    by-asking s a (λ (x : Asked). Leads a (x .state) 0) (λ _. same) (λ _ _. same) (λ _ _ _. same) (λ l _ _. no-more (attempt-kept s l a w))
+question-leads : (s : List ℕ) (a : Audio) → Ranged a → Leads a (formatOf s a .state) 0
+question-leads s a w = question-leaves s a (λ (b : Audio). Leads a b 0) (stays-leads a w) (λ l _ _. no-more (attempt-kept s l a w))
 
 open-leads : (c : Reading) (s : List ℕ) (m : List Float) → Leads (fresh c) (openOf c s m .state) 0
 open-leads c s m =
@@ -126,15 +124,14 @@ opening-is-in-range c s m = in-range _ (open-leads c s m .ranged)
 pub decode-stays-in-range : (s : List ℕ) (m o : List Float) (a : Audio) → inRange a ≡ true → inRange (decodeOf s m o a .state) ≡ true
 decode-stays-in-range s m o a r = in-range _ (decode-leads s m o a (ranged a r) .ranged)
 
-pub has-header-stays-in-range : (s : List ℕ) (a : Audio) → inRange a ≡ true → inRange (hasHeaderOf s a .state) ≡ true
-has-header-stays-in-range s a r = in-range _ (has-header-leads s a (ranged a r) .ranged)
+pub question-stays-in-range : (s : List ℕ) (a : Audio) → inRange a ≡ true → inRange (formatOf s a .state) ≡ true
+question-stays-in-range s a r = in-range _ (question-leads s a (ranged a r) .ranged)
 
 -- ---- any past of calls since opening
 
 pub sound-state-in-range : {a : Audio} {m : List Float} → Past a m → inRange a ≡ true
 sound-state-in-range (opened c s m l k) = opening-is-in-range c s m
-sound-state-in-range (has-asked {a} p s) = has-header-stays-in-range s a (sound-state-in-range p)
-sound-state-in-range (rated p) = sound-state-in-range p
+sound-state-in-range (has-asked {a} p s) = question-stays-in-range s a (sound-state-in-range p)
 sound-state-in-range (decoded {a} {m} p s o) = decode-stays-in-range s m o a (sound-state-in-range p)
 sound-state-in-range (refused {a} p s other o n e) = decode-stays-in-range s other o a (sound-state-in-range p)
 sound-state-in-range (relent p more) = sound-state-in-range p
@@ -150,8 +147,7 @@ frame-has-extension s m o a r h e = let k = verdict-kept (ranged a r) (verdict-h
 
 pub sound : {a : Audio} {m : List Float} → Past a m → Sound a
 sound (opened c s m l k) = open-leads c s m .sound (fresh-sound c)
-sound (has-asked {a} p s) = has-header-leads s a (ranged a (sound-state-in-range p)) .sound (sound p)
-sound (rated p) = sound p
+sound (has-asked {a} p s) = question-leads s a (ranged a (sound-state-in-range p)) .sound (sound p)
 sound (decoded {a} {m} p s o) = decode-leads s m o a (ranged a (sound-state-in-range p)) .sound (sound p)
 sound (refused {a} p s other o n e) = decode-leads s other o a (ranged a (sound-state-in-range p)) .sound (sound p)
 sound (relent p more) = sound p
@@ -160,7 +156,6 @@ sound (relent p more) = sound p
 unfoldable pub framesOf : {a : Audio} {m : List Float} → Past a m → ℕ
 framesOf (opened c s m l k) = 0
 framesOf (has-asked p s) = framesOf p
-framesOf (rated p) = framesOf p
 framesOf (decoded {a} {m} p s o) = framesOf p + framesIn (decodeOf s m o a .answer)
 framesOf (refused p s other o n e) = framesOf p
 framesOf (relent p more) = framesOf p
@@ -168,8 +163,7 @@ framesOf (relent p more) = framesOf p
 pub frames-are-counted : {a : Audio} {m : List Float} (p : Past a m) → a .frames ≡ framesOf p
 unfolding framesOf fresh
 frames-are-counted (opened c s m l k) = open-leads c s m .frames
-frames-are-counted (has-asked {a} p s) = has-header-leads s a (ranged a (sound-state-in-range p)) .frames ∙ add-zero _ ∙ frames-are-counted p
-frames-are-counted (rated p) = frames-are-counted p
+frames-are-counted (has-asked {a} p s) = question-leads s a (ranged a (sound-state-in-range p)) .frames ∙ add-zero _ ∙ frames-are-counted p
 frames-are-counted (decoded {a} {m} p s o) =
     decode-leads s m o a (ranged a (sound-state-in-range p)) .frames
     ∙ ap (λ n. n + framesIn (decodeOf s m o a .answer)) (frames-are-counted p)

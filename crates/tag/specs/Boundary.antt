@@ -1,5 +1,5 @@
 -- The decoder's state and answers as numbers: what firmware, or a test in another language, gets across the boundary, and what each
--- of the five calls promises there. Four are audio's calls; the fifth rounds a frame's samples. Assumes nothing.
+-- of the four calls promises there. Three are audio's calls; the fourth rounds a frame's samples. Assumes nothing.
 use Prim.Native.Nat.{ℕ}
 use mathlib.Core.Path.{_≡_, refl, ap, subst, _∙_}
 use mathlib.Core.Bool.{Bool, cond, _||_}
@@ -14,14 +14,15 @@ use Rattle.riff.specs.Level.{wordsOf}
 use Rattle.clock.specs.Clock.{startTimeOf, sameBits, onTime}
 use Rattle.state.specs.State.{numbersOk, inRange}
 use Rattle.state.specs.declared.Audio.{Audio}
+use Rattle.verdict.specs.Verdict.{atOnceOf, knownOf}
 use Rattle.verdict.specs.declared.Asked.{Asked}
-use Rattle.audio.specs.Calls.{openOf, openMemory, samplerateOf, decodeOf, decodeMemory, decodeOutput}
+use Rattle.audio.specs.Calls.{openOf, openMemory, formatOf, decodeOf, decodeMemory, decodeOutput}
 use Rattle.header.specs.declared.Reading.{Reading}
-use Rattle.audio.specs.Numbers.{headingNumber, rateNumber, rateHertz, answerNumber, answerStart, answerBits, littleRoom}
-use Rattle.audio.specs.declared.Rate.{Rate}
+use Rattle.audio.specs.Numbers.{headingNumber, toldNumber, toldRate, toldKbps, toldMode, answerNumber, answerStart, answerBits, littleRoom}
+use Rattle.audio.specs.declared.Told.{Told}
 use Rattle.audio.specs.declared.Answer.{Answer}
 use Rattle.audio.specs.declared.Decoded.{Decoded}
-use Rattle.tag.specs.declared.Hertz.{Hertz}
+use Rattle.tag.specs.declared.Named.{Named}
 use Rattle.tag.specs.declared.Played.{Played}
 
 -- ---- the state as three arrays
@@ -77,8 +78,8 @@ widened position samplerate bitrate bound pending ring mode frames time = refl
 
 -- ---- the answers: 01's number and values
 
-abbrev pub hertzOf : Rate → Hertz
-hertzOf r = record { number = rateNumber r; rate = rateHertz r }
+abbrev pub namedOf : Told → Named
+namedOf t = record { number = toldNumber t; rate = toldRate t; kbps = toldKbps t; mode = toldMode t }
 
 abbrev pub playedOf : Answer → Played
 playedOf a = record { number = answerNumber a; start = answerStart a; bits = answerBits a }
@@ -91,14 +92,22 @@ pub record HeldIn (a : Audio) (places counts : List ℕ) (time : List Float) : T
   pub counts-hold : counts ≡ countsOf a
   pub time-holds : time ≡ timeOf a
 
--- a question: its number, and the state
-pub record TagTold (x : Asked) (number : ℕ) (places counts : List ℕ) (time : List Float) : Type 0 where
+-- an opening: its number, and the state
+pub record TagOpen (x : Asked) (number : ℕ) (places counts : List ℕ) (time : List Float) : Type 0 where
   pub number-is : number ≡ headingNumber (x .answer)
   pub state-is : HeldIn (x .state) places counts time
 
-pub record TagSamplerate (a : Audio) (number : ℕ) (rate : List ℕ) : Type 0 where
-  pub number-is : number ≡ hertzOf (samplerateOf a) .number
-  pub rate-is : rate ≡ hertzOf (samplerateOf a) .rate ∷ []
+-- the question about the format
+module _ (s : List ℕ) (a : Audio) where
+  abbrev named : Named
+  named = namedOf (formatOf s a .answer)
+
+  pub record TagFormat (number : ℕ) (places counts : List ℕ) (time : List Float) (rate kbps mode : List ℕ) : Type 0 where
+    pub number-is : number ≡ named .number
+    pub state-is : HeldIn (formatOf s a .state) places counts time
+    pub rate-is : rate ≡ named .rate ∷ []
+    pub kbps-is : kbps ≡ named .kbps ∷ []
+    pub mode-is : mode ≡ named .mode ∷ []
 
 module _ (s : List ℕ) (memory output : List Float) (a : Audio) where
   abbrev decoded : Decoded
@@ -135,7 +144,7 @@ read-back {a} {places} {counts} {time} h =
 
 -- so tag_open and then tag_decode leave what `new` and then `decode` leave; and so on, from any state that a call has left
 pub open-then-decode : (r : Reading) (s : List ℕ) (memory output : List Float) {number : ℕ} {places counts : List ℕ} {time : List Float}
-    → TagTold (openOf r s memory) number places counts time
+    → TagOpen (openOf r s memory) number places counts time
     → {number′ : ℕ} {memory′ output′ : List Float} {places′ counts′ : List ℕ} {time′ start : List Float} {bits : List ℕ}
     → TagDecode s (openMemory s memory) output (stateOf places counts time) number′ memory′ output′ places′ counts′ time′ start bits
     → TagDecode s (openMemory s memory) output (openOf r s memory .state) number′ memory′ output′ places′ counts′ time′ start bits
@@ -161,7 +170,7 @@ example =
 pub order : (placesOf example ≡ 832 ∷ 1 ∷ 9 ∷ 12 ∷ 100 ∷ 768 ∷ 0 ∷ 0 ∷ []) × (countsOf example ≡ 2 ∷ 5 ∷ 17 ∷ 0 ∷ 0 ∷ 0 ∷ 0 ∷ 0 ∷ [])
 order = (refl, refl)
 
--- hertz; and the time is this state's, so it is in seconds
-pub units : hertzOf (samplerateOf example) ≡ record { number = 0; rate = 48000 }
-unfolding samplerateOf inRange numbersOk onTime sameBits startTimeOf isNan toBits ofBits div ofInt
+-- hertz, kilobits a second, and the mode's number; and the time is this state's, so it is in seconds
+pub units : namedOf (formatOf [] example .answer) ≡ record { number = 0; rate = 48000; kbps = 192; mode = 2 }
+unfolding formatOf knownOf atOnceOf inRange numbersOk onTime sameBits startTimeOf isNan toBits ofBits div ofInt
 units = refl

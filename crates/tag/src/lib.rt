@@ -1,7 +1,7 @@
-// The boundary that firmware links: the decoder's four calls, and a frame's 16-bit samples; numbers and slices and nothing else. specs/Boundary says what stands
-// where in `places`, `counts` and `time`.
+// The boundary that firmware links: the decoder's three calls, and a frame's 16-bit samples; numbers and slices and nothing else.
+// specs/Boundary says what stands where in `places`, `counts` and `time`.
 use audio::Answer;
-use audio::Rate;
+use audio::Told;
 use buffer::BitIndex;
 use buffer::Reader;
 use header::Format;
@@ -10,9 +10,9 @@ use state::Audio;
 use verdict::Heading;
 ghost use mathlib.Core.Path.{_≡_};
 ghost use Rattle.header.specs.Readings.{readingBy};
-ghost use Rattle.audio.specs.Calls.{openOf, openMemory, hasHeaderOf};
+ghost use Rattle.audio.specs.Calls.{openOf, openMemory};
 ghost use Rattle.audio.specs.Numbers.{headingNumber};
-ghost use Rattle.tag.specs.Boundary.{stateOf, placesOf, countsOf, timeOf, hertzOf, playedOf, TagTold, TagSamplerate, TagDecode, TagSamples16};
+ghost use Rattle.tag.specs.Boundary.{stateOf, placesOf, countsOf, namedOf, playedOf, TagOpen, TagFormat, TagDecode, TagSamples16};
 
 fn restore(places: &[usize; 8], counts: &[u32; 8], time: &[f64; 1]) -> Audio
     ensures { λ r. ⌜ r ≡ stateOf (now (places .entry)) (now (counts .entry)) (now (time .entry)) ⌝ }
@@ -85,7 +85,7 @@ pub extern "C" fn tag_open(
     choices: u32,
 ) -> u32
     ensures { λ r. let x = openOf (readingBy choices) (now (stream .entry)) (now (memory .entry)) in
-        ⌜ TagTold x r (now (places .exit)) (now (counts .exit)) (now (time .exit)) ⌝ }
+        ⌜ TagOpen x r (now (places .exit)) (now (counts .exit)) (now (time .exit)) ⌝ }
     ensures { λ _. ⌜ now (memory .exit) ≡ openMemory (now (stream .entry)) (now (memory .entry)) ⌝ }
 {
     let x = audio::new(stream, memory, header::reading_by(choices));
@@ -97,53 +97,59 @@ pub extern "C" fn tag_open(
     heading_number(answer)
 }
 
-// Whether a header is known, or the next attempt finds one.
+// A number, and the format in the units of the lister's line; zeros beside a refusal.
+pub struct Named {
+    pub number: u32,
+    pub rate: u32,
+    pub kbps: u32,
+    pub mode: u32,
+}
+
+fn of_told(t: Told) -> Named
+    ensures { λ x. ⌜ x ≡ namedOf t ⌝ }
+{
+    match t {
+        Told::Format { rate, kbps, mode } => Named {
+            number: 0,
+            rate,
+            kbps,
+            mode,
+        },
+        Told::Refused(number) => Named {
+            number,
+            rate: 0,
+            kbps: 0,
+            mode: 0,
+        },
+    }
+}
+
+// The stream's format, sought if none is known: the number is returned, the format is left in `rate`, `kbps` and `mode`.
 #[no_mangle]
-pub extern "C" fn tag_has_header(
+pub extern "C" fn tag_format(
     stream: &[u8],
     places: &mut [usize; 8],
     counts: &mut [u32; 8],
     time: &mut [f64; 1],
+    rate: &mut [u32; 1],
+    kbps: &mut [u32; 1],
+    mode: &mut [u32; 1],
 ) -> u32
     ensures { λ r. let a = stateOf (now (places .entry)) (now (counts .entry)) (now (time .entry)) in
-        ⌜ TagTold (hasHeaderOf (now (stream .entry)) a) r (now (places .exit)) (now (counts .exit)) (now (time .exit)) ⌝ }
+        ⌜ TagFormat (now (stream .entry)) a r (now (places .exit)) (now (counts .exit)) (now (time .exit))
+        (now (rate .exit)) (now (kbps .exit)) (now (mode .exit)) ⌝ }
 {
-    let x = audio::has_header(restore(places, counts, time), stream);
+    let x = audio::format(restore(places, counts, time), stream);
     let state = x.state;
     let answer = x.answer;
     *places = places_of(state);
     *counts = counts_of(state);
     *time = [state.time];
-    heading_number(answer)
-}
-
-// A number and the samples a second; 0 beside a refusal.
-pub struct Hertz {
-    pub number: u32,
-    pub rate: u32,
-}
-
-fn of_rate(r: Rate) -> Hertz
-    ensures { λ x. ⌜ x ≡ hertzOf r ⌝ }
-{
-    match r {
-        Rate::Hertz(rate) => Hertz { number: 0, rate },
-        Rate::Refused(number) => Hertz { number, rate: 0 },
-    }
-}
-
-#[no_mangle]
-pub extern "C" fn tag_samplerate(
-    places: &[usize; 8],
-    counts: &[u32; 8],
-    time: &[f64; 1],
-    rate: &mut [u32; 1],
-) -> u32
-    ensures { λ r. ⌜ TagSamplerate (stateOf (now (places .entry)) (now (counts .entry)) (now (time .entry))) r (now (rate .exit)) ⌝ }
-{
-    let h = of_rate(audio::samplerate(restore(places, counts, time)));
-    *rate = [h.rate];
-    h.number
+    let n = of_told(answer);
+    *rate = [n.rate];
+    *kbps = [n.kbps];
+    *mode = [n.mode];
+    n.number
 }
 
 // A number, and a frame's start in seconds with the bits it used; zeros beside a refusal.

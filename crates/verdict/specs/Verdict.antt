@@ -1,5 +1,5 @@
--- What a call asks before a frame is decoded: a header, pending or sought (1 to 6), and its data (7).
--- From 01, "Numbers a call can give": order 8, 9, 10, then 1 to 6 as the header is read, then 7. Assumes nothing.
+-- What a call asks before a frame is decoded: a header, pending or sought (1 to 6), and its data (7). And what a question about the
+-- format asks. From 01, "Numbers a call can give": order 8, 9, 10, then 1 to 6 as the header is read, then 7. Assumes nothing.
 use Prim.Native.Nat.{ℕ, _*_}
 use mathlib.Core.Bool.{cond}
 use mathlib.Core.List.{List}
@@ -68,3 +68,9 @@ unlessAtOnce number a more = cond (eqb number 0) more (asked (Refused number) a)
 -- all of it
 unfoldable pub readyOf : List ℕ → ℕ → ℕ → Audio → Asked
 readyOf s memory output a = unlessAtOnce (atOnceOf s memory output a) a (pended s (headedOf s a))
+
+-- a question about the format (02, E7): 8, then 10, then the format that is known, else one attempt. No memory and no output is lent,
+-- so none is too short
+unfoldable pub knownOf : List ℕ → Audio → Asked
+knownOf s a =
+    unlessAtOnce (atOnceOf s memoryLength outputLength a) a (cond (eqb (a .format .samplerate) 3) (attemptOf s a) (asked Known a))

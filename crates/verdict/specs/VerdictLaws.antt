@@ -22,9 +22,9 @@ use Rattle.header.specs.declared.Header.{Header}
 use Rattle.header.specs.declared.Header.the-variants.{Accepted, Refused as HeaderRefused}
 use Rattle.clock.specs.Clock.{startTimeOf}
 use Rattle.state.specs.State.{inRange}
-use Rattle.state.specs.StateLaws.{Ranged, ranged, stands-ranged, pends-ranged, same-start}
+use Rattle.state.specs.StateLaws.{Ranged, ranged, in-range, stands-ranged, pends-ranged, same-start}
 use Rattle.state.specs.declared.Audio.{Audio}
-use Rattle.verdict.specs.Verdict.{asked, seeking, tried, attemptOf, headedOf, enoughOf, goesOn, pended, atOnceOf, unlessAtOnce, readyOf}
+use Rattle.verdict.specs.Verdict.{asked, seeking, tried, attemptOf, headedOf, enoughOf, goesOn, pended, atOnceOf, unlessAtOnce, readyOf, knownOf}
 use Rattle.verdict.specs.declared.Heading.{Heading}
 use Rattle.verdict.specs.declared.Heading.the-variants.{Known, Refused}
 use Rattle.verdict.specs.declared.Asked.{Asked}
@@ -249,6 +249,61 @@ verdict-leaves P same attempt (cut-off c (accepts z e) l) = subst (λ (x : Asked
 verdict-leaves P same attempt (whole c (waits n) l) = same
 verdict-leaves P same attempt (whole c (accepts z e) l) = subst (λ (x : Asked). P (x .state)) e attempt
 
+-- ---- the walk of a question: what each test found
+
+-- what is asked next, where nothing was refused at once
+abbrev knowing : List ℕ → Audio → Asked
+knowing s a = cond (eqb (a .format .samplerate) 3) (attemptOf s a) (asked Known a)
+
+pub by-asking : (s : List ℕ) (a : Audio) (Q : Asked → Type 0)
+    → (longestStream < length s → Q (asked (Refused 8) a))
+    → (length s ≤ longestStream → inRange a ≡ false → Q (asked (Refused 10) a))
+    → (length s ≤ longestStream → inRange a ≡ true → (a .format .samplerate ≡ 3 → ⊥) → Q (asked Known a))
+    → (length s ≤ longestStream → inRange a ≡ true → a .format .samplerate ≡ 3 → Q (attemptOf s a))
+    → Q (knownOf s a)
+unfolding knownOf
+by-asking s a Q long bad known sought =
+    by-tests s memoryLength outputLength a (λ n. Q (unlessAtOnce n a (knowing s a))) (λ n h. refused h)
+    (λ c. by-test Q (eqb (a .format .samplerate) 3) _ _ (λ e. sought (c .room .short) (c .within) (eqb-true _ _ e))
+    (λ e. known (c .room .short) (c .within) (eqb-false _ _ e)))
+  where
+    refused : {n : ℕ} → AtOnce s memoryLength outputLength a n → Q (unlessAtOnce n a (knowing s a))
+    refused (eight l) = long l
+    refused (nine l (inl m)) = absurd (omega arith)
+    refused (nine l (inr o)) = absurd (omega arith)
+    refused (ten room r) = bad (room .short) r
+
+not-known : {n : ℕ} → Refused n ≡ Known → ⊥
+not-known e = let z : _≡_ {A = ℕ} 0 1 = cc in omega arith
+
+-- where a format is known, since long or just now
+by-knowing : (s : List ℕ) (a : Audio) (Q : Audio → Type 0) → (inRange a ≡ true → (a .format .samplerate ≡ 3 → ⊥) → Q a)
+    → ((b : Audio) → inRange a ≡ true → Heads s a b → Kept a (asked Known b) → Q b)
+    → knownOf s a .answer ≡ Known → Q (knownOf s a .state)
+by-knowing s a Q long-since now =
+    by-asking s a (λ (x : Asked). x .answer ≡ Known → Q (x .state)) (λ _ e. absurd (not-known e)) (λ _ _ e. absurd (not-known e))
+    (λ _ r e _. long-since r e)
+    (λ l r e k. let is = ap (λ (h : Heading). asked h (attemptOf s a .state)) k in
+    now _ r (accepts (ranged a r .known e) is) (subst (Kept a) is (attempt-kept s l a (ranged a r))))
+
+-- its state is in range, and has the format
+pub known-ranged : (s : List ℕ) (a : Audio) → knownOf s a .answer ≡ Known
+    → Ranged (knownOf s a .state) × (knownOf s a .state .format .samplerate ≡ 3 → ⊥)
+known-ranged s a =
+    by-knowing s a (λ (b : Audio). Ranged b × (b .format .samplerate ≡ 3 → ⊥)) (λ r e. (ranged a r, e))
+    (λ b _ _ k. (k .ranged, λ none. k .some refl (k .ranged .known none)))
+
+-- and what is asked before a frame ends as it would have ended without the question
+pub known-first : (s : List ℕ) (memory output : ℕ) (a : Audio) → Room s memory output → knownOf s a .answer ≡ Known
+    → readyOf s memory output (knownOf s a .state) ≡ readyOf s memory output a
+known-first s memory output a room = by-knowing s a (λ (b : Audio). readyOf s memory output b ≡ readyOf s memory output a) (λ _ _. refl) now
+  where
+    now : (b : Audio) → inRange a ≡ true → Heads s a b → Kept a (asked Known b) → readyOf s memory output b ≡ readyOf s memory output a
+    now b r h k =
+        let c : Called s memory output a = record { room = room; within = r } in
+        let d : Called s memory output b = record { room = room; within = in-range b (k .ranged) } in
+        called-ready d ∙ ap (pended s) (headed d (waits (k .some refl)) ∙ sym (headed c h)) ∙ sym (called-ready c)
+
 -- ---- for the code: what the callees ask, and the answers put together from their parts
 
 pub pended-small : (s : List ℕ) (a : Audio) (x : Asked) → length s ≤ longestStream → inRange a ≡ true → x ≡ headedOf s a → x .state .pending ≤ mostData
@@ -260,13 +315,10 @@ goes-on s h y x e k g = g ∙ ap (λ z. goesOn s z (h .state)) (sym k) ∙ ap (p
 pub goes-back : (s : List ℕ) (h y : Asked) (n : ℕ) → h ≡ y → h .answer ≡ Refused n → asked (Refused n) (h .state) ≡ pended s y
 goes-back s h y n e k = ap (λ z. goesOn s z (h .state)) (sym k) ∙ ap (pended s) e
 
-module _ (s : List ℕ) (memory output : ℕ) (a : Audio) (n : ℕ) (is : n ≡ atOnceOf s memory output a) where
-  pub refuses-at-once : (n ≡ 0 → ⊥) → asked (Refused n) a ≡ readyOf s memory output a
-  unfolding readyOf
-  refuses-at-once some =
-      ap (λ k. cond k (pended s (headedOf s a)) (asked (Refused n) a)) (sym (ne-eqb n 0 some))
-      ∙ ap (λ k. unlessAtOnce k a (pended s (headedOf s a))) is
+-- a number that is given at once, and what is asked where there is none
+module _ (number n : ℕ) (is : n ≡ number) (a : Audio) (more : Asked) where
+  pub refuses-at-once : (n ≡ 0 → ⊥) → asked (Refused n) a ≡ unlessAtOnce number a more
+  refuses-at-once some = ap (λ t. cond t more (asked (Refused n) a)) (sym (ne-eqb n 0 some)) ∙ ap (λ k. unlessAtOnce k a more) is
 
-  pub asks-on : n ≡ 0 → (x : Asked) → x ≡ pended s (headedOf s a) → x ≡ readyOf s memory output a
-  unfolding readyOf
-  asks-on none x e = e ∙ ap (λ k. unlessAtOnce k a (pended s (headedOf s a))) (sym none ∙ is)
+  pub asks-on : n ≡ 0 → (x : Asked) → x ≡ more → x ≡ unlessAtOnce number a more
+  asks-on none x e = e ∙ ap (λ k. unlessAtOnce k a more) (sym none ∙ is)

@@ -1,4 +1,5 @@
-// What a call asks before a frame is decoded: 8, 9, 10, then a header, pending or sought (1 to 6), and its data (7).
+// What a call asks before a frame is decoded: 8, 9, 10, then a header, pending or sought (1 to 6), and its data (7). And what a
+// question about the format asks.
 use buffer::Holds;
 use buffer::LONGEST_STREAM;
 use header::Header;
@@ -8,7 +9,7 @@ use synthesis::OUTPUT;
 ghost use mathlib.Core.Path.{_≡_};
 ghost use Prim.Native.Nat.{_≤_};
 ghost use Rattle.header.specs.Header.{mostData};
-ghost use Rattle.verdict.specs.Verdict.{attemptOf, headedOf, enoughOf, atOnceOf, readyOf};
+ghost use Rattle.verdict.specs.Verdict.{attemptOf, headedOf, enoughOf, atOnceOf, readyOf, knownOf};
 
 // Whether a header is there.
 pub enum Heading {
@@ -121,5 +122,26 @@ pub fn ready(a: Audio, stream: &[u8], memory: usize, output: usize) -> Asked
             answer: Heading::Refused(n),
             state,
         },
+    }
+}
+
+// Whether a format is known, or the next attempt finds one. Nothing is lent but the stream, so 9 cannot come.
+pub fn known(a: Audio, stream: &[u8]) -> Asked
+    ensures { λ x. ⌜ x ≡ knownOf (now (stream .entry)) a ⌝ }
+{
+    let number = refused_at_once(a, stream, MEMORY, OUTPUT);
+    if number != 0 {
+        return Asked {
+            answer: Heading::Refused(number),
+            state: a,
+        };
+    }
+    let f = a.format;
+    if f.samplerate == 3 {
+        return attempt(a, stream);
+    }
+    Asked {
+        answer: Heading::Known,
+        state: a,
     }
 }

@@ -33,6 +33,9 @@ slice-aggregate-write-all-2 c = search needs
 write-all-requires-2 : tie.Need-write-all-requires-2 Inv-loop μ-loop
 write-all-requires-2 c κs = search needs
 
+format-requires : tie.Need-format-requires Inv-loop μ-loop
+format-requires c κs = search needs
+
 returns : tie.Need-returns Inv-loop μ-loop
 returns c = search needs
 
@@ -86,6 +89,7 @@ play-spec =
     put-state-requires
     slice-aggregate-write-all-2
     write-all-requires-2
+    format-requires
     returns
     add-calls
     loop-holds

@@ -1,5 +1,6 @@
 use borrow.Author.Needs.{needs}
 use mathlib.Core.Path.{sym, _∙_}
+use Rattle.verdict.specs.Verdict.{readyOf}
 use Rattle.verdict.specs.VerdictLaws.{none-at-once, pended-small, goes-on, goes-back, refuses-at-once, asks-on}
 use Rattle.verdict.proofs.ready.Statement.{statement}
 use Rattle.verdict.proofs.ready.Tie as tie
@@ -8,7 +9,8 @@ refused-at-once-requires : tie.Need-refused-at-once-requires
 refused-at-once-requires c κs = search needs
 
 returns : tie.Need-returns
-returns c = refuses-at-once _ _ _ _ _ (c .before .refused-at-once .ensures) (c .if1 .taken)
+unfolding readyOf
+returns c = refuses-at-once _ _ (c .before .refused-at-once .ensures) _ _ (c .if1 .taken)
 
 headed-requires : tie.Need-headed-requires
 headed-requires c κs = search needs
@@ -26,15 +28,17 @@ enum-known-answer : tie.Need-enum-known-answer
 enum-known-answer c = search needs
 
 returns-2 : tie.Need-returns-2
+unfolding readyOf
 returns-2 c =
     let at-header = c .before .before .before .before in
-    asks-on _ _ _ _ _ (at-header .before .before .refused-at-once .ensures) (at-header .before .if1 .left) _
+    asks-on _ _ (at-header .before .before .refused-at-once .ensures) _ _ (at-header .before .if1 .left) _
     (goes-on _ _ _ _ (at-header .headed .ensures) (c .before .enum-told .given .1) (c .enough .ensures))
 
 returns-3 : tie.Need-returns-3
+unfolding readyOf
 returns-3 c =
     let at-header = c .before .before .before .before in
-    asks-on _ _ _ _ _ (at-header .before .before .refused-at-once .ensures) (at-header .before .if1 .left) _
+    asks-on _ _ (at-header .before .before .refused-at-once .ensures) _ _ (at-header .before .if1 .left) _
     (goes-back _ _ _ _ (at-header .headed .ensures) (c .before .answer .given .1))
 
 pub ready-spec : {M : Type 1} → statement M
