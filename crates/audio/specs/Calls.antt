@@ -24,9 +24,9 @@ use Rattle.verdict.specs.Verdict.{attemptOf, unlessAtOnce, readyOf, knownOf}
 use Rattle.verdict.specs.declared.Heading.{Heading}
 use Rattle.verdict.specs.declared.Heading.the-variants.{Known, Refused}
 use Rattle.verdict.specs.declared.Asked.{Asked}
-use Rattle.audio.specs.declared.Told.{Told}
-use Rattle.audio.specs.declared.Told.the-variants.{Format as FormatTold, Refused as ToldRefused}
 use Rattle.audio.specs.declared.Reply.{Reply}
+use Rattle.audio.specs.declared.Reply.the-variants.{Format as ReplyFormat, Refused as ReplyRefused}
+use Rattle.audio.specs.declared.Replied.{Replied}
 use Rattle.audio.specs.declared.Answer.the-variants.{Frame, Refused as AnswerRefused}
 use Rattle.audio.specs.declared.Decoded.{Decoded}
 
@@ -101,10 +101,10 @@ openMemory s memory = cond (eqb (noRoomOf s (length memory)) 0) (blank ++ drop m
 -- ---- format: 02, E7: "attempts a header if there is none, and answers with sample rate, kbps and mode, or with the refusal number"
 
 -- samples a second, kilobits a second, and the mode as a header has it: the units of the lister's line
-abbrev pub saying : Heading → Format → Told
-saying Known f = FormatTold (rateOf (f .samplerate)) (kbpsOf (f .bitrate)) (f .mode)
-saying (Refused n) f = ToldRefused n
+abbrev pub saying : Heading → Format → Reply
+saying Known f = ReplyFormat (rateOf (f .samplerate)) (kbpsOf (f .bitrate)) (f .mode)
+saying (Refused n) f = ReplyRefused n
 
 -- the position has moved if it was refused, and a header that was accepted is pending
-unfoldable pub formatOf : List ℕ → Audio → Reply
+unfoldable pub formatOf : List ℕ → Audio → Replied
 formatOf s a = let h = knownOf s a in record { answer = saying (h .answer) (h .state .format); state = h .state }

@@ -30,7 +30,7 @@ use Rattle.verdict.specs.declared.Asked.{Asked}
 use Rattle.audio.specs.Calls.{blank, noRoomOf, openOf, openMemory, saying, formatOf, afterOf, framedOf, framedMemory, framedOutput, decodeOf, decodeMemory, decodeOutput}
 use Rattle.audio.specs.declared.Answer.the-variants.{Refused as AnswerRefused}
 use Rattle.audio.specs.declared.Decoded.{Decoded}
-use Rattle.audio.specs.declared.Told.{Told}
+use Rattle.audio.specs.declared.Reply.{Reply}
 
 -- ---- a header pending, and its data there
 
@@ -156,7 +156,7 @@ module _ (s : List ℕ) (a : Audio) (h : Asked) (is : h ≡ knownOf s a) where
       let r = known-ranged s a (sym (ap (λ (x : Asked). x .answer) is) ∙ k) .0 in
       rw is (omega arith, omega arith)
 
-  pub tells : (t : Told) → t ≡ saying (h .answer) (h .state .format) → record { answer = t; state = h .state } ≡ formatOf s a
+  pub tells : (t : Reply) → t ≡ saying (h .answer) (h .state .format) → record { answer = t; state = h .state } ≡ formatOf s a
   unfolding formatOf
   tells t e = rw (← is, e)
 

@@ -6,8 +6,8 @@ use lib.IntN.{pos}
 use lib.Ieee.{Float, fin}
 use Rattle.verdict.specs.declared.Heading.{Heading}
 use Rattle.verdict.specs.declared.Heading.the-variants.{Known, Refused}
-use Rattle.audio.specs.declared.Told.{Told}
-use Rattle.audio.specs.declared.Told.the-variants.{Format, Refused as ToldRefused}
+use Rattle.audio.specs.declared.Reply.{Reply}
+use Rattle.audio.specs.declared.Reply.the-variants.{Format, Refused as ReplyRefused}
 use Rattle.audio.specs.declared.Answer.{Answer}
 use Rattle.audio.specs.declared.Answer.the-variants.{Frame, Refused as AnswerRefused}
 
@@ -15,26 +15,26 @@ abbrev pub headingNumber : Heading → ℕ
 headingNumber Known = 0
 headingNumber (Refused n) = n
 
-abbrev pub toldNumber : Told → ℕ
-toldNumber (Format rate kbps mode) = 0
-toldNumber (ToldRefused n) = n
+abbrev pub replyNumber : Reply → ℕ
+replyNumber (Format rate kbps mode) = 0
+replyNumber (ReplyRefused n) = n
 
 abbrev pub answerNumber : Answer → ℕ
 answerNumber (Frame time bits) = 0
 answerNumber (AnswerRefused n) = n
 
 -- samples a second, kilobits a second, and the mode; zeros beside a refusal
-abbrev pub toldRate : Told → ℕ
-toldRate (Format rate kbps mode) = rate
-toldRate (ToldRefused n) = 0
+abbrev pub replyRate : Reply → ℕ
+replyRate (Format rate kbps mode) = rate
+replyRate (ReplyRefused n) = 0
 
-abbrev pub toldKbps : Told → ℕ
-toldKbps (Format rate kbps mode) = kbps
-toldKbps (ToldRefused n) = 0
+abbrev pub replyKbps : Reply → ℕ
+replyKbps (Format rate kbps mode) = kbps
+replyKbps (ReplyRefused n) = 0
 
-abbrev pub toldMode : Told → ℕ
-toldMode (Format rate kbps mode) = mode
-toldMode (ToldRefused n) = 0
+abbrev pub replyMode : Reply → ℕ
+replyMode (Format rate kbps mode) = mode
+replyMode (ReplyRefused n) = 0
 
 -- a frame's start in seconds, and the bits that it used; zeros beside a refusal
 abbrev pub answerStart : Answer → Float

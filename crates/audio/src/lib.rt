@@ -19,13 +19,13 @@ ghost use Rattle.audio.specs.Numbers.{ends as endsBy};
 
 // A format in the lister's units: samples a second, kilobits a second, and the mode (0 stereo, 1 joint stereo, 2 two channels,
 // 3 mono). Or a number.
-pub enum Told {
+pub enum Reply {
     Format { rate: u32, kbps: u32, mode: u32 },
     Refused(u32),
 }
 
-pub struct Reply {
-    pub answer: Told,
+pub struct Replied {
+    pub answer: Reply,
     pub state: Audio,
 }
 
@@ -139,30 +139,31 @@ pub fn new(stream: &[u8], memory: &mut [f32], reading: Reading) -> Asked
     verdict::attempt(state, stream)
 }
 
-fn say(h: Heading, f: Format) -> Told
+// A format that is known, in its units; or the number.
+fn say(h: Heading, f: Format) -> Reply
     requires { ⌜ (h ≡ Known → (f .samplerate < 4) × (f .bitrate < 14)) ⌝ }
-    ensures { λ t. ⌜ t ≡ saying h f ⌝ }
+    ensures { λ r. ⌜ r ≡ saying h f ⌝ }
 {
     match h {
-        Heading::Known => Told::Format {
+        Heading::Known => Reply::Format {
             rate: tables::rate(f.samplerate),
             kbps: tables::kbps(f.bitrate),
             mode: f.mode,
         },
-        Heading::Refused(number) => Told::Refused(number),
+        Heading::Refused(number) => Reply::Refused(number),
     }
 }
 
 // The stream's format: the one that is known, or else the next attempt's. A header that the attempt accepts is pending, so `decode`
 // does not seek it again.
-pub fn format(a: Audio, stream: &[u8]) -> Reply
+pub fn format(a: Audio, stream: &[u8]) -> Replied
     ensures { λ x. ⌜ x ≡ formatOf (now (stream .entry)) a ⌝ }
 {
     let h = verdict::known(a, stream);
     let heading = h.answer;
     let state = h.state;
     let format = state.format;
-    Reply {
+    Replied {
         answer: say(heading, format),
         state,
     }

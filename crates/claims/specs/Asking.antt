@@ -20,8 +20,8 @@ use Rattle.verdict.specs.declared.Asked.{Asked}
 use Rattle.verdict.specs.declared.Heading.{Heading}
 use Rattle.verdict.specs.declared.Heading.the-variants.{Known, Refused}
 use Rattle.audio.specs.Calls.{answering, remembering, sounding, saying, formatOf, decodeOf, decodeMemory, decodeOutput}
-use Rattle.audio.specs.declared.Told.the-variants.{Format as FormatTold, Refused as ToldRefused}
-use Rattle.audio.specs.declared.Reply.{Reply}
+use Rattle.audio.specs.declared.Reply.the-variants.{Format as ReplyFormat, Refused as ReplyRefused}
+use Rattle.audio.specs.declared.Replied.{Replied}
 use Rattle.past.specs.Calls.{Call, outcome}
 use Rattle.past.specs.Formats.{format-stays}
 use Rattle.past.specs.Sound.{decode-stays-in-range}
@@ -32,7 +32,7 @@ pub record Tells (s : List ℕ) (a : Audio) : Type 0 where
   pub rate : ℕ
   pub kbps : ℕ
   pub mode : ℕ
-  pub answer : formatOf s a .answer ≡ FormatTold rate kbps mode
+  pub answer : formatOf s a .answer ≡ ReplyFormat rate kbps mode
 
 -- a state that has a format, in range, tells it on every stream, and stays
 pub told-as-known : (s : List ℕ) (a : Audio) → length s ≤ longestStream → inRange a ≡ true → (a .format .samplerate ≡ 3 → ⊥)
@@ -44,7 +44,7 @@ module _ (s : List ℕ) (a : Audio) (tells : Tells s a) where
   unfolding formatOf
   is-known = by (knownOf s a .answer) (tells .answer)
     where
-      by : (h : Heading) → saying h (knownOf s a .state .format) ≡ FormatTold (tells .rate) (tells .kbps) (tells .mode) → h ≡ Known
+      by : (h : Heading) → saying h (knownOf s a .state .format) ≡ ReplyFormat (tells .rate) (tells .kbps) (tells .mode) → h ≡ Known
       by Known e = refl
       by (Refused n) e = absurd (let z : _≡_ {A = ℕ} 0 1 = cc in omega arith)
 
@@ -75,10 +75,10 @@ module _ (s : List ℕ) (a : Audio) (tells : Tells s a) where
 
 -- a refused question is a refused call of decode: the same number, and the same state left
 pub refused-alike : (s : List ℕ) (memory output : List Float) (a : Audio) → Lent s memory output → inRange a ≡ true
-    → (n : ℕ) → formatOf s a .answer ≡ ToldRefused n → decodeOf s memory output a ≡ refused n (formatOf s a .state)
+    → (n : ℕ) → formatOf s a .answer ≡ ReplyRefused n → decodeOf s memory output a ≡ refused n (formatOf s a .state)
 refused-alike s memory output a lent within n e = by (question-table s a .holds) e
   where
-    by : {k : ℕ} {x : Reply} → Asks s a k x → x .answer ≡ ToldRefused n → decodeOf s memory output a ≡ refused n (x .state)
+    by : {k : ℕ} {x : Replied} → Asks s a k x → x .answer ≡ ReplyRefused n → decodeOf s memory output a ≡ refused n (x .state)
     by (eight l) e = absurd (let short = lent .short in omega arith)
     by (ten l w) e = absurd (never within w)
     by (known l w k) e = absurd (let z : _≡_ {A = ℕ} 0 1 = cc in omega arith)
@@ -96,6 +96,6 @@ pub told-for-good : (c : Call) (s t : List ℕ) → length s ≤ longestStream �
 told-for-good c s t short also within knows =
     let same = format-stays c knows in
     let later = decode-stays-in-range (c .stream) (c .memory) (c .output) (c .state) within in
-    ap (λ (x : Reply). x .answer) (told-as-known t (outcome c .state) also later (λ none. knows (sym (same .samplerate) ∙ none)))
+    ap (λ (x : Replied). x .answer) (told-as-known t (outcome c .state) also later (λ none. knows (sym (same .samplerate) ∙ none)))
     ∙ told-alike (c .state .format) (outcome c .state .format) same
-    ∙ sym (ap (λ (x : Reply). x .answer) (told-as-known s (c .state) short within knows))
+    ∙ sym (ap (λ (x : Replied). x .answer) (told-as-known s (c .state) short within knows))

@@ -20,7 +20,7 @@ use Rattle.header.specs.declared.Attempt.{Attempt}
 use Rattle.state.specs.State.{fresh, inRange, standsAt, pends}
 use Rattle.verdict.specs.Verdict.{asked, seeking, tried, attemptOf, atOnceOf, knownOf}
 use Rattle.audio.specs.Calls.{answering, remembering, sounding, afterOf, framedOf, framedMemory, framedOutput, decodeOf, decodeMemory, decodeOutput, openOf, saying, formatOf, noRoomOf}
-use Rattle.audio.specs.Numbers.{headingNumber, toldNumber, answerNumber}
+use Rattle.audio.specs.Numbers.{headingNumber, replyNumber, answerNumber}
 use Rattle.state.specs.StateLaws.{ranged, in-range}
 use Rattle.audio.specs.CallsLaws.{by-opening}
 use Rattle.verdict.specs.VerdictLaws.{Room, Called, AtOnce, Heads, Verdict, at-once, no-header, cut-off, whole, verdict-holds, verdict-only, heads-kept, by-asking}
@@ -28,9 +28,9 @@ use Rattle.header.specs.declared.Reading.{Reading}
 use Rattle.state.specs.declared.Audio.{Audio}
 use Rattle.verdict.specs.declared.Asked.{Asked}
 use Rattle.verdict.specs.declared.Heading.the-variants.{Known, Refused}
-use Rattle.audio.specs.declared.Told.{Told}
-use Rattle.audio.specs.declared.Told.the-variants.{Format as FormatTold, Refused as ToldRefused}
 use Rattle.audio.specs.declared.Reply.{Reply}
+use Rattle.audio.specs.declared.Reply.the-variants.{Format as ReplyFormat, Refused as ReplyRefused}
+use Rattle.audio.specs.declared.Replied.{Replied}
 use Rattle.audio.specs.declared.Answer.the-variants.{Refused as AnswerRefused}
 use Rattle.audio.specs.declared.Decoded.{Decoded}
 use Rattle.ground.specs.Rows.{TableOf, exactly, never}
@@ -186,13 +186,13 @@ module _ (s : List ℕ) (a : Audio) (short : length s ≤ longestStream) (within
 -- ---- format: "8, 10, then 0 if a header is known, else 1 to 5 or 0" (01); "sample rate, kbps and mode, or .. the refusal number" (02, E7)
 
 -- the format in the units of the lister's line
-abbrev pub told : Format → Told
-told f = FormatTold (rateOf (f .samplerate)) (kbpsOf (f .bitrate)) (f .mode)
+abbrev pub told : Format → Reply
+told f = ReplyFormat (rateOf (f .samplerate)) (kbpsOf (f .bitrate)) (f .mode)
 
-abbrev pub unanswered : ℕ → Audio → Reply
-unanswered n a = record { answer = ToldRefused n; state = a }
+abbrev pub unanswered : ℕ → Audio → Replied
+unanswered n a = record { answer = ReplyRefused n; state = a }
 
-pub data Asks (s : List ℕ) (a : Audio) : ℕ → Reply → Type 0 where
+pub data Asks (s : List ℕ) (a : Audio) : ℕ → Replied → Type 0 where
   -- "same state"; also where a format is known
   eight : longestStream < length s → Asks s a 8 (unanswered 8 a)
   ten : length s ≤ longestStream → inRange a ≡ false → Asks s a 10 (unanswered 10 a)
@@ -207,11 +207,11 @@ pub data Asks (s : List ℕ) (a : Audio) : ℕ → Reply → Type 0 where
       → Attempts s (a .reader) (a .format) n (refusal n r) → Asks s a n (unanswered n (standsAt r a))
 
 module _ (s : List ℕ) (a : Audio) where
-  abbrev replyTo : Asked → Reply
+  abbrev replyTo : Asked → Replied
   replyTo x = record { answer = saying (x .answer) (x .state .format); state = x .state }
 
   Replies : Asked → Type 0
-  Replies x = Asks s a (toldNumber (replyTo x .answer)) (replyTo x)
+  Replies x = Asks s a (replyNumber (replyTo x .answer)) (replyTo x)
 
   attempt-replies : length s ≤ longestStream → inRange a ≡ true → a .format .samplerate ≡ 3 → Replies (attemptOf s a)
   unfolding attemptOf Replies
@@ -221,7 +221,7 @@ module _ (s : List ℕ) (a : Audio) where
       by (Accepted f size) r row = accepted l w e row
       by (HeaderRefused n) r row = sought l w e row
 
-  question-only : {n : ℕ} {x : Reply} → Asks s a n x → (x ≡ formatOf s a) × (toldNumber (x .answer) ≡ n)
+  question-only : {n : ℕ} {x : Replied} → Asks s a n x → (x ≡ formatOf s a) × (replyNumber (x .answer) ≡ n)
   unfolding formatOf knownOf atOnceOf
   question-only (eight l) = (simp (lt-ltb _ _ l), refl)
   question-only (ten l w) = (simp (le-ltb _ _ l, w), refl)
@@ -229,18 +229,18 @@ module _ (s : List ℕ) (a : Audio) where
   question-only (accepted l w e t) = (simp (le-ltb _ _ l, w, eq-eqb _ _ e) (ap replyTo (sym (attempted s a l w t))), refl)
   question-only (sought l w e t) = (simp (le-ltb _ _ l, w, eq-eqb _ _ e) (ap replyTo (sym (attempted s a l w t))), refl)
 
-  pub question-table : TableOf (λ (x : Reply). toldNumber (x .answer)) (formatOf s a) (Asks s a)
+  pub question-table : TableOf (λ (x : Replied). replyNumber (x .answer)) (formatOf s a) (Asks s a)
   unfolding formatOf Replies
   question-table = record { holds = by-asking s a Replies eight ten known attempt-replies; only = question-only }
 
-question-row : {s : List ℕ} {a : Audio} {n : ℕ} {x : Reply} → Asks s a n x → (n ≤ 5) ⊎ ((n ≡ 8) ⊎ (n ≡ 10))
+question-row : {s : List ℕ} {a : Audio} {n : ℕ} {x : Replied} → Asks s a n x → (n ≤ 5) ⊎ ((n ≡ 8) ⊎ (n ≡ 10))
 question-row (eight l) = inr (inl refl)
 question-row (ten l w) = inr (inr refl)
 question-row (known l w e) = inl (omega arith)
 question-row (accepted l w e t) = inl (omega arith)
 question-row (sought l w e t) = inl (first-number e t)
 
-pub question-gives : (s : List ℕ) (a : Audio) → let n = toldNumber (formatOf s a .answer) in (n ≤ 5) ⊎ ((n ≡ 8) ⊎ (n ≡ 10))
+pub question-gives : (s : List ℕ) (a : Audio) → let n = replyNumber (formatOf s a .answer) in (n ≤ 5) ⊎ ((n ≡ 8) ⊎ (n ≡ 10))
 question-gives s a = question-row (question-table s a .holds)
 
 -- ---- new: "it can give 0 to 5, 8 or 9 (memory only)"
@@ -283,7 +283,7 @@ decode-ten : {s : List ℕ} {memory output : List Float} {a : Audio} {x : Decode
 decode-ten (ten l r) = r
 decode-ten (sought c e t) = absurd (let n = attempt-number t in omega arith)
 
-question-ten : {s : List ℕ} {a : Audio} {x : Reply} → Asks s a 10 x → inRange a ≡ false
+question-ten : {s : List ℕ} {a : Audio} {x : Replied} → Asks s a 10 x → inRange a ≡ false
 question-ten (ten l w) = w
 question-ten (sought l w e t) = absurd (let n = attempt-number t in omega arith)
 
@@ -295,7 +295,7 @@ module _ {a : Audio} {m : List Float} (past : Past a m) where
   ten-is-never-given s memory output e =
       never (sound-state-in-range past) (decode-ten (exactly (decode-table s memory output a) 10 _ .0 (refl, e)))
 
-  pub question-never-gives-ten : (s : List ℕ) → toldNumber (formatOf s a .answer) ≡ 10 → ⊥
+  pub question-never-gives-ten : (s : List ℕ) → replyNumber (formatOf s a .answer) ≡ 10 → ⊥
   question-never-gives-ten s e = never (sound-state-in-range past) (question-ten (exactly (question-table s a) 10 _ .0 (refl, e)))
 
 pub opening-never-gives-ten : (c : Reading) (s : List ℕ) (m : List Float) → headingNumber (openOf c s m .answer) ≡ 10 → ⊥

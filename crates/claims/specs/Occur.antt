@@ -23,7 +23,7 @@ use Rattle.verdict.specs.Verdict.{attemptOf, headedOf, enoughOf, readyOf, atOnc
 use Rattle.audio.specs.Calls.{answering, afterOf, framedOf, decodeOf, blank, openOf, openMemory, noRoomOf, formatOf}
 use Rattle.audio.specs.Numbers.{headingNumber, answerNumber}
 use Rattle.state.specs.declared.Audio.{Audio}
-use Rattle.audio.specs.declared.Told.the-variants.{Format as FormatTold, Refused as ToldRefused}
+use Rattle.audio.specs.declared.Reply.the-variants.{Format as ReplyFormat, Refused as ReplyRefused}
 use Rattle.verdict.specs.declared.Heading.{Heading}
 use Rattle.verdict.specs.declared.Heading.the-variants.{Known, Refused}
 use Rattle.listing.specs.Lines.{nextOf}
@@ -85,7 +85,7 @@ unfolding openOf noRoomOf attemptOf fresh headerOf startOf syncOf seekOf searchO
 openings-occur = refl
 
 pub questions-occur : map (λ s. formatOf s (fresh plain) .answer) firsts ++ (formatOf [] broken .answer ∷ [])
-    ≡ FormatTold 44100 192 0 ∷ ToldRefused 1 ∷ ToldRefused 2 ∷ ToldRefused 3 ∷ ToldRefused 4 ∷ ToldRefused 5 ∷ ToldRefused 10 ∷ []
+    ≡ ReplyFormat 44100 192 0 ∷ ReplyRefused 1 ∷ ReplyRefused 2 ∷ ReplyRefused 3 ∷ ReplyRefused 4 ∷ ReplyRefused 5 ∷ ReplyRefused 10 ∷ []
 unfolding formatOf knownOf atOnceOf attemptOf fresh inRange numbersOk onTime sameBits startTimeOf isNan toBits div ofInt headerOf startOf syncOf seekOf
     searchOf hasOf skipBytesOf fieldOf readOf bitsValue bitAt firstFrom run _>>=_ fieldsOf identOf ratesOf restOf modeOf boundOf checkOf sizeOf
 questions-occur = refl
@@ -95,7 +95,8 @@ abbrev spoken : List ℕ
 spoken = 0xFF ∷ 0xFD ∷ 0x44 ∷ 0xC0 ∷ 0 ∷ 0 ∷ []
 
 -- each of the three values is told, and a format that is known is told whatever follows in the stream
-pub formats-occur : (formatOf spoken (fresh plain) .answer ≡ FormatTold 48000 64 3) × (formatOf spoken begun ≡ record { answer = FormatTold 44100 32 0; state = begun })
+pub formats-occur : (formatOf spoken (fresh plain) .answer ≡ ReplyFormat 48000 64 3)
+    × (formatOf spoken begun ≡ record { answer = ReplyFormat 44100 32 0; state = begun })
 unfolding formatOf knownOf atOnceOf attemptOf fresh inRange numbersOk onTime sameBits startTimeOf isNan toBits div ofInt headerOf startOf syncOf seekOf
     searchOf hasOf skipBytesOf fieldOf readOf bitsValue bitAt firstFrom run _>>=_ fieldsOf identOf ratesOf restOf modeOf boundOf checkOf sizeOf
 formats-occur = (refl, refl)
@@ -123,7 +124,7 @@ pub eight-occurs : (memory output : ℕ) (a : Audio) → verdict long memory out
 unfolding readyOf atOnceOf
 eight-occurs memory output a = simp (lt-ltb longestStream (length long) (omega (arith, long-length)))
 
-pub eight-occurs-first : (memory : List Float) (a : Audio) → (openOf plain long memory .answer ≡ Refused 8) × (formatOf long a .answer ≡ ToldRefused 8)
+pub eight-occurs-first : (memory : List Float) (a : Audio) → (openOf plain long memory .answer ≡ Refused 8) × (formatOf long a .answer ≡ ReplyRefused 8)
 unfolding openOf noRoomOf formatOf knownOf atOnceOf
 eight-occurs-first memory a = let many = lt-ltb longestStream (length long) (omega (arith, long-length)) in (simp many, simp many)
 

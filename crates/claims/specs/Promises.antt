@@ -20,10 +20,10 @@ use Rattle.state.specs.State.{inRange}
 use Rattle.state.specs.declared.Audio.{Audio}
 use Rattle.verdict.specs.declared.Asked.{Asked}
 use Rattle.audio.specs.Calls.{openOf, openMemory, formatOf, decodeOf}
-use Rattle.audio.specs.Numbers.{headingNumber, toldNumber, answerNumber, ends}
+use Rattle.audio.specs.Numbers.{headingNumber, replyNumber, answerNumber, ends}
 use Rattle.audio.specs.declared.Answer.the-variants.{Refused}
 use Rattle.audio.specs.declared.Decoded.{Decoded}
-use Rattle.audio.specs.declared.Reply.{Reply}
+use Rattle.audio.specs.declared.Replied.{Replied}
 use Rattle.tables.specs.Standard.{Table, stepsOf}
 use Rattle.tables.specs.Differences.{differsAt}
 use Rattle.standard.specs.Header.{HeaderFields, allocationTable}
@@ -47,7 +47,7 @@ pub record Demand1 : Type 0 where
   pub decode-has-its-number : (c : Call)
       → TableOf (λ (x : Decoded). answerNumber (x .answer)) (outcome c) (Decodes (c .stream) (c .memory) (c .output) (c .state))
   pub opening-has-its-number : (r : Reading) (s : List ℕ) (m : List Float) → TableOf (λ (x : Asked). headingNumber (x .answer)) (openOf r s m) (Opens r s m)
-  pub question-has-its-number : (s : List ℕ) (a : Audio) → TableOf (λ (x : Reply). toldNumber (x .answer)) (formatOf s a) (Asks s a)
+  pub question-has-its-number : (s : List ℕ) (a : Audio) → TableOf (λ (x : Replied). replyNumber (x .answer)) (formatOf s a) (Asks s a)
   -- "Nothing relies on the caller having looked first."
   pub no-call-leads-out-of-range : {a : Audio} {m : List Float} → Past a m → inRange a ≡ true
   pub an-end-is-one-for-ever : (s : List ℕ) (m o : List Float) (a : Audio) → let x = decodeOf s m o a in

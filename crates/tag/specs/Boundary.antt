@@ -18,8 +18,8 @@ use Rattle.verdict.specs.Verdict.{atOnceOf, knownOf}
 use Rattle.verdict.specs.declared.Asked.{Asked}
 use Rattle.audio.specs.Calls.{openOf, openMemory, formatOf, decodeOf, decodeMemory, decodeOutput}
 use Rattle.header.specs.declared.Reading.{Reading}
-use Rattle.audio.specs.Numbers.{headingNumber, toldNumber, toldRate, toldKbps, toldMode, answerNumber, answerStart, answerBits, littleRoom}
-use Rattle.audio.specs.declared.Told.{Told}
+use Rattle.audio.specs.Numbers.{headingNumber, replyNumber, replyRate, replyKbps, replyMode, answerNumber, answerStart, answerBits, littleRoom}
+use Rattle.audio.specs.declared.Reply.{Reply}
 use Rattle.audio.specs.declared.Answer.{Answer}
 use Rattle.audio.specs.declared.Decoded.{Decoded}
 use Rattle.tag.specs.declared.Named.{Named}
@@ -78,8 +78,8 @@ widened position samplerate bitrate bound pending ring mode frames time = refl
 
 -- ---- the answers: 01's number and values
 
-abbrev pub namedOf : Told → Named
-namedOf t = record { number = toldNumber t; rate = toldRate t; kbps = toldKbps t; mode = toldMode t }
+abbrev pub namedOf : Reply → Named
+namedOf r = record { number = replyNumber r; rate = replyRate r; kbps = replyKbps r; mode = replyMode r }
 
 abbrev pub playedOf : Answer → Played
 playedOf a = record { number = answerNumber a; start = answerStart a; bits = answerBits a }

@@ -1,7 +1,7 @@
 // The boundary that firmware links: the decoder's three calls, and a frame's 16-bit samples; numbers and slices and nothing else.
 // specs/Boundary says what stands where in `places`, `counts` and `time`.
 use audio::Answer;
-use audio::Told;
+use audio::Reply;
 use buffer::BitIndex;
 use buffer::Reader;
 use header::Format;
@@ -105,17 +105,17 @@ pub struct Named {
     pub mode: u32,
 }
 
-fn of_told(t: Told) -> Named
-    ensures { λ x. ⌜ x ≡ namedOf t ⌝ }
+fn of_reply(r: Reply) -> Named
+    ensures { λ x. ⌜ x ≡ namedOf r ⌝ }
 {
-    match t {
-        Told::Format { rate, kbps, mode } => Named {
+    match r {
+        Reply::Format { rate, kbps, mode } => Named {
             number: 0,
             rate,
             kbps,
             mode,
         },
-        Told::Refused(number) => Named {
+        Reply::Refused(number) => Named {
             number,
             rate: 0,
             kbps: 0,
@@ -145,7 +145,7 @@ pub extern "C" fn tag_format(
     *places = places_of(state);
     *counts = counts_of(state);
     *time = [state.time];
-    let n = of_told(answer);
+    let n = of_reply(answer);
     *rate = [n.rate];
     *kbps = [n.kbps];
     *mode = [n.mode];

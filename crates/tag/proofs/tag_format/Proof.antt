@@ -18,24 +18,24 @@ places-of-requires c κs = search needs
 counts-of-requires : tie.Need-counts-of-requires
 counts-of-requires c κs = search needs
 
-of-told-requires : tie.Need-of-told-requires
-of-told-requires c κs = search needs
+of-reply-requires : tie.Need-of-reply-requires
+of-reply-requires c κs = search needs
 
 returns : tie.Need-returns
 returns c =
-    let at-told = c .before .before .before in
-    let at-places = at-told .before .before .before in
+    let at-reply = c .before .before .before in
+    let at-places = at-reply .before .before .before in
     let at-call = at-places .before .before in
     let at-restore = at-call .before in
     let begun = at-restore .before .before .before .before .before .args in
     let answered = at-call .format .ensures ∙ ap (formatOf (begun .stream .now)) (at-restore .restore .ensures) in
-    let named = at-told .of-told .ensures ∙ ap (λ x. namedOf (x .answer)) answered in
+    let named = at-reply .of-reply .ensures ∙ ap (λ x. namedOf (x .answer)) answered in
     record {
       number-is = ap (λ n. n .number) named;
       state-is =
           record {
             places-hold = at-places .places-of .ensures ∙ ap (λ x. placesOf (x .state)) answered;
-            counts-hold = at-told .before .before .counts-of .ensures ∙ ap (λ x. countsOf (x .state)) answered;
+            counts-hold = at-reply .before .before .counts-of .ensures ∙ ap (λ x. countsOf (x .state)) answered;
             time-holds = ap (λ x. timeOf (x .state)) answered;
           };
       rate-is = ap (λ n. n .rate ∷ []) named;
@@ -51,5 +51,5 @@ tag-format-spec =
     format-requires
     places-of-requires
     counts-of-requires
-    of-told-requires
+    of-reply-requires
     returns)
