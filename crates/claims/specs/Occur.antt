@@ -18,7 +18,8 @@ use Rattle.tables.specs.Standard.{rateOf}
 use Rattle.header.specs.Header.{headerOf, startOf, syncOf, seekOf, fieldsOf, identOf, ratesOf, restOf, modeOf, boundOf, checkOf, sizeOf}
 use Rattle.clock.specs.Clock.{startTimeOf, sameBits, onTime}
 use Rattle.header.specs.Readings.{plain}
-use Rattle.state.specs.State.{fresh, numbersOk, inRange, pends, framedTo}
+use Rattle.header.specs.declared.Format.{Format}
+use Rattle.state.specs.State.{fresh, numbersOk, inRange, standsAt, pends, framedTo}
 use Rattle.verdict.specs.Verdict.{attemptOf, headedOf, enoughOf, readyOf, atOnceOf, knownOf}
 use Rattle.audio.specs.Calls.{answering, afterOf, framedOf, decodeOf, blank, openOf, openMemory, noRoomOf, formatOf}
 use Rattle.audio.specs.Numbers.{headingNumber, answerNumber}
@@ -90,16 +91,21 @@ unfolding formatOf knownOf atOnceOf attemptOf fresh inRange numbersOk onTime sam
     searchOf hasOf skipBytesOf fieldOf readOf bitsValue bitAt firstFrom run _>>=_ fieldsOf identOf ratesOf restOf modeOf boundOf checkOf sizeOf
 questions-occur = refl
 
--- 64 kbps, 48,000 Hz, mono
+-- 64 kbps, 48,000 Hz, mono: its header, and the format that it says
 abbrev spoken : List ℕ
 spoken = 0xFF ∷ 0xFD ∷ 0x44 ∷ 0xC0 ∷ 0 ∷ 0 ∷ []
 
--- each of the three values is told, and a format that is known is told whatever follows in the stream
-pub formats-occur : (formatOf spoken (fresh plain) .answer ≡ ReplyFormat 48000 64 3)
+abbrev voice : Format
+voice = record { reading = plain; samplerate = 1; bitrate = 3; mode = 3; bound = 0 }
+
+-- each of the three values is told, and the header's 188 bytes of data are pending; a refused question has moved on, to the end; and a
+-- format that is known is told whatever follows in the stream
+pub formats-occur : (formatOf spoken (fresh plain) ≡ record { answer = ReplyFormat 48000 64 3; state = pends (readerAt 32) voice 188 (fresh plain) })
+    × (formatOf (1 ∷ replicate 5 0) (fresh plain) ≡ record { answer = ReplyRefused 2; state = standsAt (readerAt 48) (fresh plain) })
     × (formatOf spoken begun ≡ record { answer = ReplyFormat 44100 32 0; state = begun })
 unfolding formatOf knownOf atOnceOf attemptOf fresh inRange numbersOk onTime sameBits startTimeOf isNan toBits div ofInt headerOf startOf syncOf seekOf
     searchOf hasOf skipBytesOf fieldOf readOf bitsValue bitAt firstFrom run _>>=_ fieldsOf identOf ratesOf restOf modeOf boundOf checkOf sizeOf
-formats-occur = (refl, refl)
+formats-occur = (refl, refl, refl)
 
 -- 192 kbps, 48,000 Hz, stereo, and no data
 abbrev pub cut : List ℕ
