@@ -1,6 +1,6 @@
 /* The loop of firmware/README.md, as it stands there, run to each of its endings: endings CITRUS INCIDENT. steps/firmware
- * takes loop.c from the page, and has the linker put `counted` in front of tag_decode. A loop that makes more calls than
- * 01 allows is ended here. */
+ * takes loop.c from the page, and has the linker put `counted` in front of tag_decode and tag_format. A loop that makes more
+ * calls than 01 allows is ended here. */
 #include "tag.h"
 #include <stdio.h>
 #include <stdlib.h>
@@ -14,9 +14,10 @@ static void to_the_converter(const int16_t *samples);
 #define MARK 12345.0f
 
 static uint8_t citrus[1 << 16], incident[1 << 16], too_long[TAG_STREAM + 1];
-static uint64_t citrus_count, incident_count;
+static uint8_t junk[1 << 16]; /* two headers of layer III, then the citrus clip */
+static uint64_t citrus_count, incident_count, junk_count;
 static float memory[TAG_MEMORY], output[TAG_OUTPUT];
-static uint64_t calls, budget, frames, heard, others;
+static uint64_t calls, questions, budget, frames, heard, others;
 static uint32_t rate_set; /* the converter's; 0 before it was told one */
 static uint32_t to_come; /* calls that answer 13 and 14 in turn, numbers that are to come, before the library is asked */
 static unsigned compared, differ;
@@ -46,15 +47,27 @@ static void to_the_converter(const int16_t *samples) {
         heard = heard * 31 + (uint16_t)samples[i];
 }
 
+/* Ends a loop that has made as many calls as it may. */
+static void counted(uint64_t *made, const char *what) {
+    if ((*made)++ < budget)
+        return;
+    same(what, *made, budget);
+    exit(closed());
+}
+
+uint32_t __real_tag_format(const uint8_t *, uint64_t, uint64_t *, uint32_t *, double *, uint32_t *, uint32_t *, uint32_t *);
+uint32_t __wrap_tag_format(const uint8_t *stream, uint64_t stream_count, uint64_t *places, uint32_t *counts, double *time,
+                           uint32_t *rate, uint32_t *kbps, uint32_t *mode) {
+    counted(&questions, "the page asks on after this many questions");
+    return __real_tag_format(stream, stream_count, places, counts, time, rate, kbps, mode);
+}
+
 uint32_t __real_tag_decode(const uint8_t *, uint64_t, float *, uint64_t, float *, uint64_t, uint64_t *, uint32_t *,
                            double *, double *, uint64_t *);
 uint32_t __wrap_tag_decode(const uint8_t *stream, uint64_t stream_count, float *values, uint64_t values_count,
                            float *frame, uint64_t frame_count, uint64_t *places, uint32_t *counts, double *time,
                            double *start, uint64_t *bits) {
-    if (calls++ == budget) {
-        same("the loop goes on after this many calls", calls, budget);
-        exit(closed());
-    }
+    counted(&calls, "the loop goes on after this many calls");
     if (to_come > 0)
         return 13 + --to_come % 2;
     return __real_tag_decode(stream, stream_count, values, values_count, frame, frame_count, places, counts, time,
@@ -63,7 +76,7 @@ uint32_t __wrap_tag_decode(const uint8_t *stream, uint64_t stream_count, float *
 
 /* n / 2 + 1 calls, and the one that answers 1 or 7. */
 static void begin(uint64_t stream_count) {
-    calls = frames = heard = others = rate_set = 0;
+    calls = questions = frames = heard = others = rate_set = 0;
     budget = stream_count / 2 + 2;
 }
 
@@ -102,6 +115,12 @@ static void whole_clips(void) {
     to_come = 4;
     same("numbers to come", play_clip(citrus, citrus_count, memory, TAG_MEMORY, output, TAG_OUTPUT, &others),
          TAG_REFUSED_NO_HEADER_CAN_FOLLOW);
+    same("frames behind them", frames, 149);
+    begin(junk_count);
+    same("two headers of another layer in front", play_clip(junk, junk_count, memory, TAG_MEMORY, output, TAG_OUTPUT, &others),
+         TAG_REFUSED_NO_HEADER_CAN_FOLLOW);
+    same("the opening refuses the first, a question the second, and the next one tells", questions, 2);
+    same("the rate behind them", rate_set, 44100);
     same("frames behind them", frames, 149);
     begin(0);
     same("no byte", play_clip(citrus, 0, memory, TAG_MEMORY, output, TAG_OUTPUT, &others), TAG_REFUSED_NO_HEADER_CAN_FOLLOW);
@@ -157,6 +176,9 @@ int main(int count, char **words) {
         return 2;
     citrus_count = read_clip(words[1], citrus, sizeof citrus);
     incident_count = read_clip(words[2], incident, sizeof incident);
+    static const uint8_t layer_iii[] = {0xFF, 0xFB, 0, 0, 0, 0, 0xFF, 0xFB, 0, 0, 0, 0};
+    memcpy(junk, layer_iii, sizeof layer_iii);
+    junk_count = sizeof layer_iii + read_clip(words[1], junk + sizeof layer_iii, sizeof junk - sizeof layer_iii);
     lent_wrong("8", too_long, TAG_STREAM + 1, TAG_MEMORY, TAG_OUTPUT, TAG_REFUSED_LONG_STREAM, 0);
     lent_wrong("9, memory", citrus, citrus_count, TAG_MEMORY - 1, TAG_OUTPUT, TAG_REFUSED_LITTLE_ROOM, 0);
     lent_wrong("9, output", citrus, citrus_count, TAG_MEMORY, TAG_OUTPUT - 1, TAG_REFUSED_LITTLE_ROOM, 1);

@@ -36,7 +36,12 @@ static const char *words_of(uint32_t number) {
 }
 
 static const char *mode_of(uint32_t mode) {
-    static const char *const words[] = {"stereo", "joint stereo", "two channels", "mono"};
+    static const char *const words[] = {
+        [TAG_MODE_STEREO] = "stereo",
+        [TAG_MODE_JOINT_STEREO] = "joint stereo",
+        [TAG_MODE_TWO_CHANNELS] = "two channels",
+        [TAG_MODE_MONO] = "mono",
+    };
     return mode < sizeof words / sizeof words[0] ? words[mode] : "a mode that this player does not know";
 }
 

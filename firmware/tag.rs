@@ -167,8 +167,8 @@ impl Decoder {
         (d, answer(number, ()))
     }
 
-    /// The clip's format. If no header is known yet, the next one is tried, and a header that was found is the next call's
-    /// of `decode`; if one is, it is told, whatever follows in the stream. It stays until the next opening.
+    /// The clip's format. If a header is known, its format is told, whatever follows in the stream. If none is, the next one
+    /// is tried; if it is accepted, the next call of `decode` plays its frame. The format stays until the next opening.
     pub fn format(&mut self, stream: &[u8]) -> Result<Format, Refusal> {
         let (mut rate, mut kbps, mut mode) = ([0], [0], [0]);
         let (data, length) = (stream.as_ptr(), stream.len() as u64);

@@ -1,7 +1,6 @@
 // A header's fields, read once more so that the page can say them in words. The decoder reads them for itself.
-import { KBPS } from "./tag.js";
-
 const RATES = [44100, 48000, 32000];
+const KBPS = [32, 48, 56, 64, 80, 96, 112, 128, 160, 192, 224, 256, 320, 384];
 
 // A byte that is cut off counts as 0, as the decoder counts it.
 export function fields(stream, at) {

@@ -4,9 +4,8 @@
 export const STREAM = 16777216; // bytes that a stream has at most
 export const PAIRS = 1152; // samples of a frame on each channel
 export const OUTPUT = 2 * PAIRS; // values of a frame, left and right in turn
-export const KBPS = [32, 48, 56, 64, 80, 96, 112, 128, 160, 192, 224, 256, 320, 384];
 const MEMORY = 2048, PAGE = 65536; // values of synthesis memory; bytes by which a module's memory grows
-const BYTES = { memory: 4 * MEMORY, places: 64, counts: 32, time: 8, start: 8, bits: 8, rate: 4, kbps: 4, mode: 8, output: 4 * OUTPUT, samples: 2 * OUTPUT };
+const BYTES = { memory: 4 * MEMORY, places: 64, counts: 32, time: 8, start: 8, bits: 8, rate: 4, kbps: 4, mode: 4, output: 4 * OUTPUT, samples: 2 * OUTPUT };
 const SAVED = BYTES.memory + BYTES.places + BYTES.counts + BYTES.time;
 
 // Where everything lies in the module's memory, one behind the other: synthesis memory and state first, so that both are
@@ -59,7 +58,7 @@ export class Decoder {
         return this.samples;
     }
 
-    // The clip's format: samples a second, kilobits a second, the mode. Zeros where none is known, and the next header is none.
+    // The clip's format: samples a second, kilobits a second, the mode. Zeros where no format is known and the attempt finds none.
     format() {
         const { stream, places, counts, time, rate, kbps, mode } = this.at;
         this.calls.tag_format(stream, this.count, places, counts, time, rate, kbps, mode);

@@ -105,6 +105,9 @@ abbrev pub saying : Heading → Format → Reply
 saying Known f = ReplyFormat (rateOf (f .samplerate)) (kbpsOf (f .bitrate)) (f .mode)
 saying (Refused n) f = ReplyRefused n
 
+abbrev pub replying : Asked → Replied
+replying x = record { answer = saying (x .answer) (x .state .format); state = x .state }
+
 -- the position has moved if it was refused, and a header that was accepted is pending
 unfoldable pub formatOf : List ℕ → Audio → Replied
-formatOf s a = let h = knownOf s a in record { answer = saying (h .answer) (h .state .format); state = h .state }
+formatOf s a = replying (knownOf s a)

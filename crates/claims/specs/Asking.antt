@@ -14,12 +14,12 @@ use Rattle.header.specs.declared.Format.{Format}
 use Rattle.state.specs.State.{inRange, standsAt}
 use Rattle.state.specs.StateLaws.{ranged, in-range}
 use Rattle.state.specs.declared.Audio.{Audio}
-use Rattle.verdict.specs.Verdict.{readyOf, knownOf}
+use Rattle.verdict.specs.Verdict.{asked, readyOf, knownOf}
 use Rattle.verdict.specs.VerdictLaws.{known-ranged, known-first}
 use Rattle.verdict.specs.declared.Asked.{Asked}
 use Rattle.verdict.specs.declared.Heading.{Heading}
 use Rattle.verdict.specs.declared.Heading.the-variants.{Known, Refused}
-use Rattle.audio.specs.Calls.{answering, remembering, sounding, saying, formatOf, decodeOf, decodeMemory, decodeOutput}
+use Rattle.audio.specs.Calls.{answering, remembering, sounding, saying, replying, formatOf, decodeOf, decodeMemory, decodeOutput}
 use Rattle.audio.specs.declared.Reply.the-variants.{Format as ReplyFormat, Refused as ReplyRefused}
 use Rattle.audio.specs.declared.Replied.{Replied}
 use Rattle.past.specs.Calls.{Call, outcome}
@@ -34,7 +34,7 @@ pub record Tells (s : List ℕ) (a : Audio) : Type 0 where
   pub mode : ℕ
   pub answer : formatOf s a .answer ≡ ReplyFormat rate kbps mode
 
--- a state that has a format, in range, tells it on every stream, and stays
+-- a state that has a format, in range, tells it on every stream that is not too long, and stays
 pub told-as-known : (s : List ℕ) (a : Audio) → length s ≤ longestStream → inRange a ≡ true → (a .format .samplerate ≡ 3 → ⊥)
     → formatOf s a ≡ record { answer = told (a .format); state = a }
 told-as-known s a short within knows = sym (question-table s a .only (known short within knows) .0)
@@ -48,7 +48,8 @@ module _ (s : List ℕ) (a : Audio) (tells : Tells s a) where
       by Known e = refl
       by (Refused n) e = absurd (let z : _≡_ {A = ℕ} 0 1 = cc in omega arith)
 
-  -- what decode then gives is what it would have given without the question: an accepted header is pending, and not sought again
+  -- what decode then gives, on the same stream and lent enough, is what it would have given without the question: an accepted header
+  -- is pending, and not sought again
   module _ (memory output : List Float) (lent : Lent s memory output) where
     as-before : readyOf s (length memory) (length output) (formatOf s a .state) ≡ readyOf s (length memory) (length output) a
     unfolding formatOf
@@ -64,14 +65,14 @@ module _ (s : List ℕ) (a : Audio) (tells : Tells s a) where
       ap (λ (x : Asked). sounding s memory output (x .answer) (x .state)) as-before,
     )
 
-  -- asked again, on any stream, it tells the same and leaves the same
+  -- asked again, on any stream that is not too long, it tells the same and leaves the same
   pub told-once : (t : List ℕ) → length t ≤ longestStream → formatOf t (formatOf s a .state) ≡ formatOf s a
   unfolding formatOf
   told-once t short =
       let b = knownOf s a .state in
       let has = known-ranged s a is-known in
       told-as-known t b short (in-range b (has .0)) (has .1)
-      ∙ ap (λ (h : Heading). record { answer = saying h (b .format); state = b }) (sym is-known)
+      ∙ ap (λ (h : Heading). replying (asked h b)) (sym is-known)
 
 -- a refused question is a refused call of decode: the same number, and the same state left
 pub refused-alike : (s : List ℕ) (memory output : List Float) (a : Audio) → Lent s memory output → inRange a ≡ true

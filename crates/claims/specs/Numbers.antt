@@ -19,7 +19,7 @@ use Rattle.header.specs.declared.Header.the-variants.{Accepted, Refused as Head
 use Rattle.header.specs.declared.Attempt.{Attempt}
 use Rattle.state.specs.State.{fresh, inRange, standsAt, pends}
 use Rattle.verdict.specs.Verdict.{asked, seeking, tried, attemptOf, atOnceOf, knownOf}
-use Rattle.audio.specs.Calls.{answering, remembering, sounding, afterOf, framedOf, framedMemory, framedOutput, decodeOf, decodeMemory, decodeOutput, openOf, saying, formatOf, noRoomOf}
+use Rattle.audio.specs.Calls.{answering, remembering, sounding, afterOf, framedOf, framedMemory, framedOutput, decodeOf, decodeMemory, decodeOutput, openOf, replying, formatOf, noRoomOf}
 use Rattle.audio.specs.Numbers.{headingNumber, replyNumber, answerNumber}
 use Rattle.state.specs.StateLaws.{ranged, in-range}
 use Rattle.audio.specs.CallsLaws.{by-opening}
@@ -207,11 +207,8 @@ pub data Asks (s : List ℕ) (a : Audio) : ℕ → Replied → Type 0 where
       → Attempts s (a .reader) (a .format) n (refusal n r) → Asks s a n (unanswered n (standsAt r a))
 
 module _ (s : List ℕ) (a : Audio) where
-  abbrev replyTo : Asked → Replied
-  replyTo x = record { answer = saying (x .answer) (x .state .format); state = x .state }
-
   Replies : Asked → Type 0
-  Replies x = Asks s a (replyNumber (replyTo x .answer)) (replyTo x)
+  Replies x = Asks s a (replyNumber (replying x .answer)) (replying x)
 
   attempt-replies : length s ≤ longestStream → inRange a ≡ true → a .format .samplerate ≡ 3 → Replies (attemptOf s a)
   unfolding attemptOf Replies
@@ -226,8 +223,8 @@ module _ (s : List ℕ) (a : Audio) where
   question-only (eight l) = (simp (lt-ltb _ _ l), refl)
   question-only (ten l w) = (simp (le-ltb _ _ l, w), refl)
   question-only (known l w e) = (simp (le-ltb _ _ l, w, ne-eqb _ _ e), refl)
-  question-only (accepted l w e t) = (simp (le-ltb _ _ l, w, eq-eqb _ _ e) (ap replyTo (sym (attempted s a l w t))), refl)
-  question-only (sought l w e t) = (simp (le-ltb _ _ l, w, eq-eqb _ _ e) (ap replyTo (sym (attempted s a l w t))), refl)
+  question-only (accepted l w e t) = (simp (le-ltb _ _ l, w, eq-eqb _ _ e) (ap replying (sym (attempted s a l w t))), refl)
+  question-only (sought l w e t) = (simp (le-ltb _ _ l, w, eq-eqb _ _ e) (ap replying (sym (attempted s a l w t))), refl)
 
   pub question-table : TableOf (λ (x : Replied). replyNumber (x .answer)) (formatOf s a) (Asks s a)
   unfolding formatOf Replies

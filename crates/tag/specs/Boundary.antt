@@ -2,11 +2,12 @@
 -- of the four calls promises there. Three are audio's calls; the fourth rounds a frame's samples. Assumes nothing.
 use Prim.Native.Nat.{ℕ}
 use mathlib.Core.Path.{_≡_, refl, ap, subst, _∙_}
-use mathlib.Core.Bool.{Bool, cond, _||_}
+use mathlib.Core.Bool.{Bool, false, cond, _||_}
 use mathlib.Core.List.{List, [], _∷_, _++_}
 use lib.Dec.{ltb}
 use lib.ListN.{length, take, drop, getD}
-use lib.Ieee.{Float, nan, binary64, ofBits, toBits, isNan, div, ofInt}
+use lib.IntN.{pos}
+use lib.Ieee.{Float, fin, nan, binary64, ofBits, toBits, isNan, div, ofInt}
 use Rattle.buffer.specs.Calls.{readerAt}
 use Rattle.header.specs.Readings.{plain}
 use Rattle.synthesis.specs.Slots.{outputLength}
@@ -20,7 +21,9 @@ use Rattle.audio.specs.Calls.{openOf, openMemory, formatOf, decodeOf, decodeMem
 use Rattle.header.specs.declared.Reading.{Reading}
 use Rattle.audio.specs.Numbers.{headingNumber, replyNumber, replyRate, replyKbps, replyMode, answerNumber, answerStart, answerBits, littleRoom}
 use Rattle.audio.specs.declared.Reply.{Reply}
+use Rattle.audio.specs.declared.Reply.the-variants.{Refused as ReplyRefused}
 use Rattle.audio.specs.declared.Answer.{Answer}
+use Rattle.audio.specs.declared.Answer.the-variants.{Refused as AnswerRefused}
 use Rattle.audio.specs.declared.Decoded.{Decoded}
 use Rattle.tag.specs.declared.Named.{Named}
 use Rattle.tag.specs.declared.Played.{Played}
@@ -174,3 +177,8 @@ order = (refl, refl)
 pub units : namedOf (formatOf [] example .answer) ≡ record { number = 0; rate = 48000; kbps = 192; mode = 2 }
 unfolding formatOf knownOf atOnceOf inRange numbersOk onTime sameBits startTimeOf isNan toBits ofBits div ofInt
 units = refl
+
+-- beside a refusal there are zeros
+pub zeros-beside : (namedOf (ReplyRefused 2) ≡ record { number = 2; rate = 0; kbps = 0; mode = 0 })
+    × (playedOf (AnswerRefused 7) ≡ record { number = 7; start = fin false 0 (pos 0); bits = 0 })
+zeros-beside = (refl, refl)

@@ -71,6 +71,8 @@ readyOf s memory output a = unlessAtOnce (atOnceOf s memory output a) a (pended 
 
 -- a question about the format (02, E7): 8, then 10, then the format that is known, else one attempt. No memory and no output is lent,
 -- so none is too short
+abbrev pub knowing : List ℕ → Audio → Asked
+knowing s a = cond (eqb (a .format .samplerate) 3) (attemptOf s a) (asked Known a)
+
 unfoldable pub knownOf : List ℕ → Audio → Asked
-knownOf s a =
-    unlessAtOnce (atOnceOf s memoryLength outputLength a) a (cond (eqb (a .format .samplerate) 3) (attemptOf s a) (asked Known a))
+knownOf s a = unlessAtOnce (atOnceOf s memoryLength outputLength a) a (knowing s a)

@@ -24,7 +24,7 @@ use Rattle.clock.specs.Clock.{startTimeOf}
 use Rattle.state.specs.State.{inRange}
 use Rattle.state.specs.StateLaws.{Ranged, ranged, in-range, stands-ranged, pends-ranged, same-start}
 use Rattle.state.specs.declared.Audio.{Audio}
-use Rattle.verdict.specs.Verdict.{asked, seeking, tried, attemptOf, headedOf, enoughOf, goesOn, pended, atOnceOf, unlessAtOnce, readyOf, knownOf}
+use Rattle.verdict.specs.Verdict.{asked, seeking, tried, attemptOf, headedOf, enoughOf, goesOn, pended, atOnceOf, unlessAtOnce, readyOf, knowing, knownOf}
 use Rattle.verdict.specs.declared.Heading.{Heading}
 use Rattle.verdict.specs.declared.Heading.the-variants.{Known, Refused}
 use Rattle.verdict.specs.declared.Asked.{Asked}
@@ -250,10 +250,6 @@ verdict-leaves P same attempt (whole c (waits n) l) = same
 verdict-leaves P same attempt (whole c (accepts z e) l) = subst (λ (x : Asked). P (x .state)) e attempt
 
 -- ---- the walk of a question: what each test found
-
--- what is asked next, where nothing was refused at once
-abbrev knowing : List ℕ → Audio → Asked
-knowing s a = cond (eqb (a .format .samplerate) 3) (attemptOf s a) (asked Known a)
 
 pub by-asking : (s : List ℕ) (a : Audio) (Q : Asked → Type 0)
     → (longestStream < length s → Q (asked (Refused 8) a))
