@@ -113,10 +113,11 @@ TAG_ASSERT(state, sizeof(struct tag_state) == 104);
 uint32_t tag_open(const uint8_t *stream, uint64_t stream_count, float *memory, uint64_t memory_count,
                   uint64_t places[TAG_PLACES], uint32_t counts[TAG_COUNTS], double time[1], uint32_t choices);
 
-/* The clip's format: samples a second, kilobits a second, and the mode, see enum tag_mode. If a header is known, its format is
- * told, whatever follows in the stream. If none is, the next one is tried. Answers 0 to 5, 8 or 10. With 0 the format stays
- * until the next opening. If its header was found just now, the next call of tag_decode plays that header's frame. With
- * another number the three are 0; with 2 to 5 the position has moved on, and asking again, or tag_decode, goes on from there. */
+/* The clip's format: samples a second, kilobits a second, and the mode, see enum tag_mode. If a header is known, its format
+ * is told, whatever follows in the stream. If none is, the next one is tried. Answers 0 to 5, 8 or 10. With 0 the format
+ * stays until the next opening. If its header was found just now, tag_decode does not seek it again: its frame comes next.
+ * With another number the three are 0. With 2 to 5 the position has moved on, and asking again, or tag_decode, goes on from
+ * there. */
 uint32_t tag_format(const uint8_t *stream, uint64_t stream_count,
                     uint64_t places[TAG_PLACES], uint32_t counts[TAG_COUNTS], double time[1],
                     uint32_t rate[1], uint32_t kbps[1], uint32_t mode[1]);

@@ -168,7 +168,8 @@ impl Decoder {
     }
 
     /// The clip's format. If a header is known, its format is told, whatever follows in the stream. If none is, the next one
-    /// is tried; if it is accepted, the next call of `decode` plays its frame. The format stays until the next opening.
+    /// is tried; if it is accepted, `decode` does not seek it again: its frame comes next. The format stays until the next
+    /// opening.
     pub fn format(&mut self, stream: &[u8]) -> Result<Format, Refusal> {
         let (mut rate, mut kbps, mut mode) = ([0], [0], [0]);
         let (data, length) = (stream.as_ptr(), stream.len() as u64);
