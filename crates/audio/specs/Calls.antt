@@ -105,6 +105,7 @@ abbrev pub saying : Heading → Format → Reply
 saying Known f = ReplyFormat (rateOf (f .samplerate)) (kbpsOf (f .bitrate)) (f .mode)
 saying (Refused n) f = ReplyRefused n
 
+-- and the state goes with it
 abbrev pub replying : Asked → Replied
 replying x = record { answer = saying (x .answer) (x .state .format); state = x .state }
 

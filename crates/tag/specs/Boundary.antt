@@ -173,10 +173,17 @@ example =
 pub order : (placesOf example ≡ 832 ∷ 1 ∷ 9 ∷ 12 ∷ 100 ∷ 768 ∷ 0 ∷ 0 ∷ []) × (countsOf example ≡ 2 ∷ 5 ∷ 17 ∷ 0 ∷ 0 ∷ 0 ∷ 0 ∷ 0 ∷ [])
 order = (refl, refl)
 
--- hertz, kilobits a second, and the mode's number; and the time is this state's, so it is in seconds
-pub units : namedOf (formatOf [] example .answer) ≡ record { number = 0; rate = 48000; kbps = 192; mode = 2 }
+-- hertz in `rate`, kilobits a second in `kbps`, and the mode's number; and the time is this state's, so it is in seconds
+pub units : TagFormat [] example 0 (placesOf example) (countsOf example) (timeOf example) (48000 ∷ []) (192 ∷ []) (2 ∷ [])
 unfolding formatOf knownOf atOnceOf inRange numbersOk onTime sameBits startTimeOf isNan toBits ofBits div ofInt
-units = refl
+units =
+    record {
+      number-is = refl;
+      state-is = record { places-hold = refl; counts-hold = refl; time-holds = refl };
+      rate-is = refl;
+      kbps-is = refl;
+      mode-is = refl;
+    }
 
 -- beside a refusal there are zeros
 pub zeros-beside : (namedOf (ReplyRefused 2) ≡ record { number = 2; rate = 0; kbps = 0; mode = 0 })

@@ -69,10 +69,10 @@ unlessAtOnce number a more = cond (eqb number 0) more (asked (Refused number) a)
 unfoldable pub readyOf : List ℕ → ℕ → ℕ → Audio → Asked
 readyOf s memory output a = unlessAtOnce (atOnceOf s memory output a) a (pended s (headedOf s a))
 
--- a question about the format (02, E7): 8, then 10, then the format that is known, else one attempt. No memory and no output is lent,
--- so none is too short
+-- a question about the format (02, E7): the one that is known, else one attempt
 abbrev pub knowing : List ℕ → Audio → Asked
 knowing s a = cond (eqb (a .format .samplerate) 3) (attemptOf s a) (asked Known a)
 
+-- all of it: 8, then 10, then that. No memory and no output is lent, so none is too short
 unfoldable pub knownOf : List ℕ → Audio → Asked
 knownOf s a = unlessAtOnce (atOnceOf s memoryLength outputLength a) a (knowing s a)
