@@ -15,9 +15,10 @@ static void to_the_converter(const int16_t *samples);
 
 static uint8_t citrus[1 << 16], incident[1 << 16], too_long[TAG_STREAM + 1];
 static uint8_t junk[1 << 16]; /* two headers of layer III, then the citrus clip */
-static uint64_t citrus_count, incident_count, junk_count;
+static uint8_t text[1 << 16]; /* seven bytes of text, then the citrus clip */
+static uint64_t citrus_count, incident_count, junk_count, text_count;
 static float memory[TAG_MEMORY], output[TAG_OUTPUT];
-static uint64_t calls, questions, budget, frames, heard, others;
+static uint64_t calls, questions, budget, frames, heard, others, in_front;
 static uint32_t rate_set; /* the converter's; 0 before it was told one */
 static uint32_t to_come; /* calls that answer 13 and 14 in turn, numbers that are to come, before the library is asked */
 static unsigned compared, differ;
@@ -86,7 +87,7 @@ static void lent_wrong(const char *what, const uint8_t *stream, uint64_t stream_
     struct tag_state state;
     begin(100);
     memory[0] = MARK;
-    same(what, play_clip(stream, stream_count, memory, memory_count, output, output_count, &others), number);
+    same(what, play_clip(stream, stream_count, memory, memory_count, output, output_count, &others, &in_front), number);
     same("calls after the opening", calls, calls_after_opening);
     same("nothing was cleared", memory[0] == MARK, calls_after_opening == 0);
     begin(100);
@@ -104,26 +105,30 @@ static void state_out_of_range(void) {
     same("one call", calls, 1);
 }
 
-static void whole_clips(void) {
-    begin(incident_count);
-    same("the incident's end", play_clip(incident, incident_count, memory, TAG_MEMORY, output, TAG_OUTPUT, &others),
+/* Plays a clip to its end, with so many bytes of junk in front. */
+static void played(const char *what, const uint8_t *stream, uint64_t stream_count, uint64_t junk_in_front) {
+    begin(stream_count);
+    same(what, play_clip(stream, stream_count, memory, TAG_MEMORY, output, TAG_OUTPUT, &others, &in_front),
          TAG_REFUSED_NO_HEADER_CAN_FOLLOW);
+    same("bytes of junk in front", in_front, junk_in_front);
+}
+
+static void whole_clips(void) {
+    played("the incident's end", incident, incident_count, 0);
     same("frames of the first clip", frames, 149);
     same("the converter's rate", rate_set, 44100);
     same("frames of the other format", others, 154);
-    begin(citrus_count);
     to_come = 4;
-    same("numbers to come", play_clip(citrus, citrus_count, memory, TAG_MEMORY, output, TAG_OUTPUT, &others),
-         TAG_REFUSED_NO_HEADER_CAN_FOLLOW);
+    played("numbers to come", citrus, citrus_count, 0);
     same("frames behind them", frames, 149);
-    begin(junk_count);
-    same("two headers of another layer in front", play_clip(junk, junk_count, memory, TAG_MEMORY, output, TAG_OUTPUT, &others),
-         TAG_REFUSED_NO_HEADER_CAN_FOLLOW);
+    played("two headers of another layer in front", junk, junk_count, 8);
     same("the opening refuses the first, a question the second, and the next one tells", questions, 2);
     same("the rate behind them", rate_set, 44100);
     same("frames behind them", frames, 149);
-    begin(0);
-    same("no byte", play_clip(citrus, 0, memory, TAG_MEMORY, output, TAG_OUTPUT, &others), TAG_REFUSED_NO_HEADER_CAN_FOLLOW);
+    played("text in front", text, text_count, 7);
+    same("the opening goes by it, and the first question tells", questions, 1);
+    same("frames behind it", frames, 149);
+    played("no byte", citrus, 0, 0);
     same("no rate", rate_set, 0);
     same("no call after it", calls, 0);
 }
@@ -134,7 +139,7 @@ static void grown_and_saved(uint64_t cut, uint32_t number) {
     struct tag_state state, saved;
     static float kept[TAG_MEMORY];
     begin(citrus_count);
-    play_clip(citrus, citrus_count, memory, TAG_MEMORY, output, TAG_OUTPUT, &others);
+    play_clip(citrus, citrus_count, memory, TAG_MEMORY, output, TAG_OUTPUT, &others, &in_front);
     uint64_t at_once = heard;
     begin(2 * citrus_count);
     tag_state_open(&state, citrus, cut, memory, TAG_MEMORY, 0);
@@ -179,6 +184,8 @@ int main(int count, char **words) {
     static const uint8_t layer_iii[] = {0xFF, 0xFB, 0, 0, 0, 0, 0xFF, 0xFB, 0, 0, 0, 0};
     memcpy(junk, layer_iii, sizeof layer_iii);
     junk_count = sizeof layer_iii + read_clip(words[1], junk + sizeof layer_iii, sizeof junk - sizeof layer_iii);
+    memcpy(text, "scents:", 7);
+    text_count = 7 + read_clip(words[1], text + 7, sizeof text - 7);
     lent_wrong("8", too_long, TAG_STREAM + 1, TAG_MEMORY, TAG_OUTPUT, TAG_REFUSED_LONG_STREAM, 0);
     lent_wrong("9, memory", citrus, citrus_count, TAG_MEMORY - 1, TAG_OUTPUT, TAG_REFUSED_LITTLE_ROOM, 0);
     lent_wrong("9, output", citrus, citrus_count, TAG_MEMORY, TAG_OUTPUT - 1, TAG_REFUSED_LITTLE_ROOM, 1);

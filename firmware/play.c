@@ -13,7 +13,8 @@ enum status { PLAYED = 0, TELL_THE_KEEPER = 1, NO_FILE = 2, OUR_MISTAKE = 3 };
 static const char usage[] =
     "play CLIP SOUND\n"
     "Plays CLIP, at most 65536 bytes, to the file SOUND: samples of 16 bits, low byte first, left and right in turn.\n"
-    "Standard output has the clip's format, a line for each call, and then what the keeper of the clip has to know.\n"
+    "Standard output has the clip's format, the junk in front of it, a line for each call, and then what the keeper of the\n"
+    "clip has to know.\n"
     "Status: 0 the clip was played to its end, or to where it is cut off; 1 nothing was played, or a call was refused\n"
     "on the way; 2 wrong words, a clip that is too long, or a file that cannot be read or written; 3 a mistake of this\n"
     "player.\n";
@@ -78,6 +79,7 @@ struct told {
     unsigned long frames;  /* that were played */
     unsigned long refused; /* calls that were refused on the way, with 2 to 6 */
     unsigned long others;  /* of these, frames of another format: with 6 */
+    unsigned long junk;    /* bytes in front of the first frame */
     int written;           /* whether the sound could be written */
 };
 
@@ -94,11 +96,17 @@ static void tell_format(const struct tag_told *format) {
     printf("format: %lu samples a second, %lu kbps, %s\n", rate, kbps, mode_of(format->mode[0]));
 }
 
+static void tell_junk(unsigned long bytes) {
+    if (bytes != 0)
+        printf("%lu %s of junk in front\n", bytes, bytes == 1 ? "byte" : "bytes");
+}
+
 /* Asks for the format until it is told. A tag would set its converter to the rate here. Where none will be told, the first
  * call of tag_decode says why. */
 static void ask(struct tag_state *state, uint64_t length, struct told *told) {
     struct tag_told format;
     while (tag_goes_on(told->number = tag_state_format(state, stream, length, &format))) {
+        told->junk += (unsigned long)tag_state_skipped(state);
         if (told->number == TAG_SUCCEEDED) {
             tell_format(&format);
             return;
@@ -123,14 +131,16 @@ static void step(struct tag_state *state, uint64_t length, FILE *sound, struct t
 
 static struct told play(uint64_t length, FILE *sound) {
     struct tag_state state;
-    struct told told = {0, 0, 0, 0, 1};
+    struct told told = {0, 0, 0, 0, 0, 1};
     told.number = tag_state_open(&state, stream, length, memory, TAG_MEMORY, 0);
+    told.junk = (unsigned long)tag_state_skipped(&state);
     if (told.number != TAG_SUCCEEDED && !tag_ends(told.number))
         tell_refusal(&state, &told);
     /* After 8 or 9 nothing was cleared: such a decoder must not go on. */
     if (tag_callers_mistake(told.number))
         return told;
     ask(&state, length, &told);
+    tell_junk(told.junk);
     do {
         step(&state, length, sound, &told);
     } while (tag_goes_on(told.number) && told.written);

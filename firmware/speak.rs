@@ -16,7 +16,8 @@ const OUR_MISTAKE: i32 = 3;
 
 const USAGE: &str = "speak CLIP SOUND
 Plays CLIP, at most 65536 bytes, to the file SOUND: samples of 16 bits, low byte first, left and right in turn.
-Standard output has the clip's format, a line for each call, and then what the keeper of the clip has to know.
+Standard output has the clip's format, the junk in front of it, a line for each call, and then what the keeper of the
+clip has to know.
 Status: 0 the clip was played to its end, or to where it is cut off; 1 nothing was played, or a call was refused
 on the way; 2 wrong words, a clip that is too long, or a file that cannot be read or written; 3 a mistake of this
 player.
@@ -66,6 +67,8 @@ struct Told {
     refused: u32,
     /// Of these, frames of another format: with 6.
     others: u32,
+    /// Bytes in front of the first frame.
+    junk: u64,
 }
 
 impl Told {
@@ -103,11 +106,21 @@ fn tell_format(format: Format) {
     println!("format: {rate} samples a second, {kbps} kbps, {}", mode_of(format));
 }
 
+fn tell_junk(bytes: u64) {
+    match bytes {
+        0 => {}
+        1 => println!("1 byte of junk in front"),
+        _ => println!("{bytes} bytes of junk in front"),
+    }
+}
+
 /// Asks for the format until it is told. A tag would set its converter to the rate here. Where none will be told, the first
 /// call of `decode` says why.
 fn ask(d: &mut Decoder, stream: &[u8], told: &mut Told) {
     loop {
-        match d.format(stream) {
+        let answer = d.format(stream);
+        told.junk += d.skipped();
+        match answer {
             Ok(format) => return tell_format(format),
             Err(refusal) if refusal.goes_on() => told.tell_refusal(d, refusal),
             Err(_) => return,
@@ -132,8 +145,10 @@ fn play(stream: &[u8], sound: &mut File) -> std::io::Result<Told> {
         frames: 0,
         refused: 0,
         others: 0,
+        junk: 0,
     };
     let (mut d, opened) = Decoder::new(stream, &mut memory, 0);
+    told.junk = d.skipped();
     match opened {
         Err(refusal) if !refusal.ends() => told.tell_refusal(&d, refusal),
         _ => {}
@@ -141,6 +156,7 @@ fn play(stream: &[u8], sound: &mut File) -> std::io::Result<Told> {
     // After 8 or 9 nothing was cleared: such a decoder must not go on.
     if told.goes_on() {
         ask(&mut d, stream, &mut told);
+        tell_junk(told.junk);
     }
     while told.goes_on() {
         match d.decode(stream, &mut memory, &mut output) {

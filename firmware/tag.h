@@ -71,7 +71,8 @@ static inline int tag_goes_on(uint32_t number) {
 
 /* A decoder is these plain numbers and its memory. Copy both between two calls, never during one, and the copy goes on
  * from there, on any processor. The time is compared bit for bit: save its 8 bytes, and no decimal digits. What is kept
- * for later is written 0 and not read today, so a state saved as six places and two counts, widened with zeros, goes on. */
+ * for later is written 0 and not read today, and the last place is an answer that no call reads. So a state saved as six
+ * places and two counts, widened with zeros, goes on. */
 struct tag_state {
     uint64_t places[TAG_PLACES];
     uint32_t counts[TAG_COUNTS];
@@ -86,7 +87,7 @@ enum tag_place {
     TAG_PLACE_PENDING,     /* bytes of the frame whose header has been read; 0: no header pending */
     TAG_PLACE_RING,        /* the place of the last slot in the memory */
     TAG_PLACE_FRAME_END,   /* kept for the end of the frame whose header has been read; 0 today */
-    TAG_PLACE_SKIPPED      /* kept for the bytes that a call passed over; 0 today */
+    TAG_PLACE_SKIPPED      /* bytes that the last call passed over to the FF of a header, see tag_state_skipped */
 };
 
 enum tag_count {
@@ -109,6 +110,8 @@ TAG_ASSERT(state, sizeof(struct tag_state) == 104);
 
 /* Opens a decoder: clears the first TAG_MEMORY values of the memory, makes a state, tries the first header.
  * Answers 0 to 5, 8 or 9. The decoder can go on after 0 to 5; after 8 or 9 nothing was cleared: open again.
+ * TAG_PLACE_SKIPPED is how many bytes stand in front of that header's FF, also where it is refused with 3 to 5; with 2 all
+ * bytes of the stream; with 1, 8 and 9 it is 0.
  * The bits of `choices` stand for other ways to read. None has an effect yet, and 0 is the only reading: give 0. */
 uint32_t tag_open(const uint8_t *stream, uint64_t stream_count, float *memory, uint64_t memory_count,
                   uint64_t places[TAG_PLACES], uint32_t counts[TAG_COUNTS], double time[1], uint32_t choices);
@@ -117,14 +120,18 @@ uint32_t tag_open(const uint8_t *stream, uint64_t stream_count, float *memory, u
  * is told, whatever follows in the stream. If none is, the next one is tried. Answers 0 to 5, 8 or 10. With 0 the format
  * stays until the next opening. If its header was found just now, tag_decode does not seek it again: its frame comes next.
  * With another number the three are 0. With 2 to 5 the position has moved on, and asking again, or tag_decode, goes on from
- * there. */
+ * there. TAG_PLACE_SKIPPED is how many bytes the attempt passed over, up to the header's FF, or with 2 up to the stream's end.
+ * It is 0 where a header is known, and with 1, 8 and 10. */
 uint32_t tag_format(const uint8_t *stream, uint64_t stream_count,
                     uint64_t places[TAG_PLACES], uint32_t counts[TAG_COUNTS], double time[1],
                     uint32_t rate[1], uint32_t kbps[1], uint32_t mode[1]);
 
 /* The next frame. Answers 0 to 10. With 0 the output's first TAG_OUTPUT values are the frame, `start` is its start in
  * seconds and `bits` how many bits it used. With another number memory and output stay, and start and bits are 0.
- * 1.0 is full scale. A loud clip goes beyond it on both sides, so values have to be held before a converter gets them. */
+ * 1.0 is full scale. A loud clip goes beyond it on both sides, so values have to be held before a converter gets them.
+ * TAG_PLACE_SKIPPED is how many bytes were passed over from where the last call stopped reading to this header's FF, also
+ * with 3 to 6, and with 7 if the header was found just now; with 2 to the stream's end. What the last frame left unused is
+ * among them. It is 0 where the header was found by an earlier call, and with 1, 8, 9 and 10. */
 uint32_t tag_decode(const uint8_t *stream, uint64_t stream_count, float *memory, uint64_t memory_count,
                     float *output, uint64_t output_count,
                     uint64_t places[TAG_PLACES], uint32_t counts[TAG_COUNTS], double time[1],
@@ -162,6 +169,12 @@ static inline uint32_t tag_state_decode(struct tag_state *state, const uint8_t *
                                         struct tag_frame *frame) {
     return tag_decode(stream, stream_count, memory, memory_count, output, output_count,
                       state->places, state->counts, state->time, frame->start, frame->bits);
+}
+
+/* The bytes that the last call passed over. Added up over the opening and the questions until the format is told, they are
+ * the junk in front of a clip. */
+static inline uint64_t tag_state_skipped(const struct tag_state *state) {
+    return state->places[TAG_PLACE_SKIPPED];
 }
 
 #ifdef __cplusplus

@@ -11,7 +11,7 @@ pub const COUNTS: usize = 8;
 /// The layout of a saved state: save it beside the state, and go on with no other.
 pub const LAYOUT: u32 = 1;
 
-/// What stands where in a decoder's `places`. The last two are kept for later, written 0 and not read today.
+/// What stands where in a decoder's `places`.
 pub mod place {
     pub const POSITION: usize = 0;
     pub const SAMPLE_RATE: usize = 1;
@@ -20,7 +20,9 @@ pub mod place {
     pub const PENDING: usize = 4;
     /// The place of the last slot in the memory.
     pub const RING: usize = 5;
+    /// Kept for later, written 0 and not read today.
     pub const FRAME_END: usize = 6;
+    /// An answer, which no call reads: see `Decoder::skipped`.
     pub const SKIPPED: usize = 7;
 }
 
@@ -152,7 +154,7 @@ fn answer<T>(number: u32, value: T) -> Result<T, Refusal> {
 
 impl Decoder {
     /// Clears the memory and tries the first header. The decoder can go on, but after 8 or 9 nothing was cleared: open
-    /// again. No bit of `choices` does anything yet: give 0.
+    /// again. `skipped` is how many bytes stand in front of that header's FF. No bit of `choices` does anything yet: give 0.
     pub fn new(stream: &[u8], memory: &mut [f32], choices: u32) -> (Decoder, Result<(), Refusal>) {
         let mut d = Decoder {
             places: [0; PLACES],
@@ -169,7 +171,7 @@ impl Decoder {
 
     /// The clip's format. If a header is known, its format is told, whatever follows in the stream. If none is, the next one
     /// is tried; if it is accepted, `decode` does not seek it again: its frame comes next. The format stays until the next
-    /// opening.
+    /// opening. `skipped` is how many bytes the attempt passed over; 0 where a header is known.
     pub fn format(&mut self, stream: &[u8]) -> Result<Format, Refusal> {
         let (mut rate, mut kbps, mut mode) = ([0], [0], [0]);
         let (data, length) = (stream.as_ptr(), stream.len() as u64);
@@ -185,7 +187,8 @@ impl Decoder {
     }
 
     /// The next frame, to the output's first 2,304 values. 1.0 is full scale, and a loud clip goes beyond it. A refusal
-    /// leaves memory and output.
+    /// leaves memory and output. `skipped` is how many bytes were passed over from where the last call stopped reading; 0
+    /// where the header was found by an earlier call.
     pub fn decode(&mut self, stream: &[u8], memory: &mut [f32], output: &mut [f32]) -> Result<Frame, Refusal> {
         let (mut start, mut bits) = ([0.0], [0]);
         let number = unsafe {
@@ -208,6 +211,13 @@ impl Decoder {
             bits: bits[0],
         };
         answer(number, frame)
+    }
+
+    /// The bytes that the last call passed over: up to the FF of the header that it met, also where that was refused, or
+    /// with 2 up to the stream's end; 0 where no header was sought, and with 1, 8, 9 and 10. Added up over `new` and
+    /// `format` until the format is told, they are the junk in front of a clip.
+    pub fn skipped(&self) -> u64 {
+        self.places[place::SKIPPED]
     }
 }
 

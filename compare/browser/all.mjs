@@ -1,6 +1,7 @@
 // node compare/browser/all.mjs BROWSER, or '' for none: see compare/page, which makes what is compared here.
 import { Count } from "./count.mjs";
 import * as stored from "./stored.mjs";
+import { comparePassed } from "./passed.mjs";
 import { drive } from "./drive.mjs";
 
 const [browser, folder] = process.argv.slice(2);
@@ -12,6 +13,7 @@ const count = new Count(), module = stored.compiled("target/page/tag.wasm");
 await count.part("node beside the Rust's stored answers", () => count.lines(stored.ours(module), stored.rust, "the lines of the stored streams"));
 await count.part("WAV files beside the proved program's", () => stored.compareWavs(count, module));
 await count.part("3,000 damaged streams beside the proved program replay", () => stored.compareDamaged(count, module, 3000));
+await count.part("headers and what was passed over", () => comparePassed(count, module));
 await count.part("every byte counted once, and some verdicts", () => stored.compareBytes(count, module));
 await count.part("words beside the specs", () => stored.compareWords(count));
 await count.part("exercises beside the Rust's answers", () => stored.compareExercises(count, module));

@@ -107,10 +107,10 @@ async function compareSound(count, page) {
 
 async function compareBytes(count, page) {
     await page.pick("incident");
-    count.holds((await page.text("chosen")).includes("refused 6 at 30995"), "the first refusal is chosen");
+    count.holds((await page.text("chosen")).includes("refused 6 at 30995 skipped 0:"), "the first refusal is chosen");
     count.holds((await page.text("hex")).startsWith("From byte 30,992: header FF FD 20 C4 behind it 65"), `the bytes of the first refusal: ${await page.text("hex")}`);
     count.same(await page.text("legend"), "sound, 30,342 bytesits headers, 596 bytespassed over, 54 bytesheaders refused with 6, 616 bytespassed over behind 6, 23,408 bytes", "the legend");
-    const steps = [["#previous", "frame 148 at 30788"], ["#next", "refused 6 at 30995"], ["#next", "refused 6 at 31151"], ["#refusal", "refused 6 at 30995"]];
+    const steps = [["#previous", "frame 148 at 30788"], ["#next", "refused 6 at 30995"], ["#next", "refused 6 at 31151 skipped 152:"], ["#refusal", "refused 6 at 30995"]];
     for (const [button, words] of steps) {
         await page.click(button);
         count.holds((await page.text("chosen")).includes(words), `${button} goes to ${words}`);
@@ -127,6 +127,8 @@ async function compareBytes(count, page) {
     await page.click("#calls details:nth-child(2) .call:nth-child(4)");
     count.holds((await page.text("chosen")).includes("refused 6 at 31307"), "a row that is chosen");
     await page.keep("bytes");
+    await page.pick("junk-any");
+    for (const words of ["skipped 500: plays", "Its header, at byte 500, says"]) count.holds((await page.text("chosen")).includes(words), `junk in front: ${await page.text("chosen")}`);
 }
 
 async function compareIncident(count, page) {

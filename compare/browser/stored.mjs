@@ -52,7 +52,7 @@ function numbersOf(specs, name) {
 // What the specs say in words stands in the page as it is, and after the same numbers no call follows.
 export function compareWords(count) {
     const specs = fs.readFileSync("crates/listing/specs/Words.antt", "utf8"), letters = (part) => [...part.matchAll(/letters "(.*?)"/g)].map((found) => found[1]);
-    const [reasons, modes] = ["reasonOf n =", "modeOf n ="].map((name) => letters(specs.split(name)[1].split("\n\n")[0]));
+    const [reasons, modes] = ["reasonOf n =", "modeWords n ="].map((name) => letters(specs.split(name)[1].split("\n\n")[0]));
     count.same(REASONS.slice(1).join(), reasons.slice(0, -1).join(), "the reasons");
     count.same(MODES.join(), modes.join(), "the modes");
     const numbers = fs.readFileSync("crates/audio/specs/Numbers.antt", "utf8"), last = ["ends", "callersMistake"].flatMap((name) => numbersOf(numbers, name));

@@ -3,7 +3,7 @@
 
 use crate::by_01::{by_01, decode_by_01, Reading};
 use crate::files::files;
-use crate::source::traced::audio::Audio;
+use crate::source::traced::audio::{Audio, Samples};
 use crate::source::NO_FORMAT;
 use std::io::Read;
 use std::path::Path;
@@ -16,11 +16,37 @@ fn checksum(samples: &[f32]) -> u64 {
     })
 }
 
-/// One decode call: its line, and whether it is the last.
-fn call(audio: &mut Audio, stream: &[u8], frames: usize) -> (String, bool) {
-    let told: Reading = decode_by_01(stream, audio.at(), audio.format(), audio.pending());
+/// Where a header was sought, its FF must be the one behind which the Rust read on.
+fn same_sync(audio: &Audio, told: Reading) {
+    let found = (told.number != 2).then_some(told.sync);
+    assert!(told.number == 1 || audio.sync() == found, "the sync of {told:?}");
+}
+
+/// One decode call by the Rust, with 01's and 02's reading of it.
+fn decoded(audio: &mut Audio, stream: &[u8]) -> (Option<Samples>, Reading) {
+    let pending = audio.pending();
+    let told = decode_by_01(stream, audio.at(), audio.format(), pending);
     let answer = audio.decode();
     assert_eq!(answer.is_some(), told.number == 0, "the Rust and 01 differ on {told:?}");
+    if pending == 0 {
+        same_sync(audio, told);
+    }
+    (answer, told)
+}
+
+/// The opening by the Rust, with 01's and 02's reading of it.
+fn opened(stream: &[u8]) -> (Audio, Reading) {
+    let told = by_01(stream, 0, NO_FORMAT);
+    let audio = Audio::new(stream.to_vec());
+    assert_eq!((audio.at(), audio.pending()), (told.at, told.size), "the opening");
+    same_sync(&audio, told);
+    (audio, told)
+}
+
+/// One decode call: its line, and whether it is the last. What an accepted opening passed over is counted with it.
+fn call(audio: &mut Audio, stream: &[u8], frames: usize, opening: usize) -> (String, bool) {
+    let (answer, told) = decoded(audio, stream);
+    let skipped = opening + told.skipped;
     let Some(samples) = answer else {
         assert_eq!((audio.at(), audio.pending()), (told.at, told.size), "after a refusal");
         let word = if [1, 7].contains(&told.number) {
@@ -28,14 +54,15 @@ fn call(audio: &mut Audio, stream: &[u8], frames: usize) -> (String, bool) {
         } else {
             "refused"
         };
-        return (format!("{word} {} at {}", told.number, told.at / 8), word == "end");
+        let line = format!("{word} {} at {} skipped {skipped}", told.number, told.at / 8);
+        return (line, word == "end");
     };
     let (first, bits) = audio.used();
     assert_eq!(first, told.at, "the first allocation bit");
     let (rate, kbps, mode) = (audio.samplerate(), audio.kbps(), audio.format().mode);
     let (time, sum) = (samples.time.to_bits(), checksum(&samples.interleaved));
     let frame = format!(
-        "frame {frames} at {} rate {rate} kbps {kbps} mode {mode} bits {bits}",
+        "frame {frames} at {} rate {rate} kbps {kbps} mode {mode} bits {bits} skipped {skipped}",
         first / 8
     );
     (format!("{frame} time {time:016x} sum {sum:016x}"), false)
@@ -49,17 +76,18 @@ fn listing(stream: &[u8]) -> Vec<String> {
     if stream.len() > LONGEST {
         return vec!["long".to_string()];
     }
-    let opening = by_01(stream, 0, NO_FORMAT);
-    let mut audio = Audio::new(stream.to_vec());
-    assert_eq!((audio.at(), audio.pending()), (opening.at, opening.size), "the opening");
-    let mut lines = Vec::new();
+    let (mut audio, opening) = opened(stream);
+    let (mut lines, mut carried) = (Vec::new(), opening.skipped);
     if (2..=5).contains(&opening.number) {
-        lines.push(format!("refused {} at {}", opening.number, opening.at / 8));
+        let (number, at) = (opening.number, opening.at / 8);
+        lines.push(format!("refused {number} at {at} skipped {carried}"));
+        carried = 0;
     }
     let mut frames = 0;
     loop {
-        let (line, last) = call(&mut audio, stream, frames);
+        let (line, last) = call(&mut audio, stream, frames, carried);
         frames += line.starts_with("frame") as usize;
+        carried = 0;
         lines.push(line);
         if last {
             return lines;
@@ -74,8 +102,9 @@ pub fn print(folder: &Path) {
     }
 }
 
-/// The state as the tag's arrays hold it: six places, two counts, and the next start.
-fn state(audio: &Audio) -> String {
+/// What a call leaves in the tag's arrays: the state's six places, the bytes that it passed over, two counts, and the next
+/// start.
+fn state(audio: &Audio, skipped: usize) -> String {
     let (f, (frames, time)) = (audio.format(), audio.clock());
     let places = [
         audio.at(),
@@ -84,6 +113,7 @@ fn state(audio: &Audio) -> String {
         f.bound,
         audio.pending(),
         audio.ring(),
+        skipped,
     ];
     let places = places.map(|n| n.to_string()).join(" ");
     format!("{places} {} {frames} {:016x}", f.mode, time.to_bits())
@@ -91,31 +121,32 @@ fn state(audio: &Audio) -> String {
 
 /// The question about the format, by the Rust's pair: its line.
 fn format_told(audio: &mut Audio, stream: &[u8]) -> String {
-    let sought = by_01(stream, audio.at(), NO_FORMAT).number;
-    let number = if audio.knows_header() { 0 } else { sought };
+    let sought = !audio.knows_header();
+    let told = by_01(stream, audio.at(), NO_FORMAT);
+    let (number, skipped) = if sought { (told.number, told.skipped) } else { (0, 0) };
     assert_eq!(audio.has_header(), number == 0, "the Rust and 01 differ");
+    if sought {
+        same_sync(audio, told);
+    }
     let (rate, kbps, mode) = match number {
         0 => (audio.samplerate(), audio.kbps(), audio.format().mode),
         _ => (0, 0, 0),
     };
-    format!("format {number} {} {rate} {kbps} {mode}", state(audio))
+    format!("format {number} {} {rate} {kbps} {mode}", state(audio, skipped))
 }
 
 /// What the program `across` must write of the stream on standard input.
 pub fn across() {
     let mut stream = Vec::new();
     std::io::stdin().read_to_end(&mut stream).expect("a stream");
-    let opening = by_01(&stream, 0, NO_FORMAT);
-    let mut audio = Audio::new(stream.clone());
-    println!("open {} {}", opening.number, state(&audio));
+    let (mut audio, opening) = opened(&stream);
+    println!("open {} {}", opening.number, state(&audio, opening.skipped));
     println!("{}", format_told(&mut audio, &stream));
     loop {
-        let number = decode_by_01(&stream, audio.at(), audio.format(), audio.pending()).number;
         let start = audio.clock().1;
-        let answer = audio.decode();
-        assert_eq!(answer.is_some(), number == 0, "the Rust and 01 differ");
+        let (answer, Reading { number, skipped, .. }) = decoded(&mut audio, &stream);
         let Some(samples) = answer else {
-            println!("decode {number} {}", state(&audio));
+            println!("decode {number} {}", state(&audio, skipped));
             if [1, 7].contains(&number) {
                 return;
             }
@@ -128,6 +159,6 @@ pub fn across() {
             audio.used().1,
             checksum(&samples.interleaved)
         );
-        println!("decode 0 {} {told}", state(&audio));
+        println!("decode 0 {} {told}", state(&audio, skipped));
     }
 }

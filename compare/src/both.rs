@@ -1,12 +1,13 @@
 //! The port's decoder and the Rust's side by side. Each call is made on both, and everything is compared: the number,
 //! the state with the bits of its time, a frame's start and the bits it used, memory and output by their bits, and
 //! what is lent beyond them; of a frame also its 16-bit samples. The Rust answers a refusal with None; its number is told
-//! by `by_01`, and what 16 bits a sample has by `by_02`.
+//! by `by_01`, and so is what a call passed over; what 16 bits a sample has is told by `by_02`.
 
 use crate::by_01::{by_01, decode_by_01};
 use crate::by_02::steps;
-use crate::firmware::{self, samples16, Decoder, Refusal, COUNTS, MEMORY, OUTPUT, PLACES};
-use crate::saved::{fresh, written};
+use crate::firmware::{self, place, samples16, Decoder, Refusal, COUNTS, MEMORY, OUTPUT, PLACES};
+use crate::saved::{any, fresh, written};
+use crate::seeded::Seeded;
 use crate::source::traced::audio::Audio;
 use crate::source::{Format, NO_FORMAT};
 use crate::tally::{hex, Tally};
@@ -29,7 +30,8 @@ pub struct Both<'a> {
     pub memory: Vec<f32>,
     pub output: Vec<f32>,
     audio: Audio,
-    /// What must stand in the numbers that the Rust has not: the choices, and what is kept for later.
+    /// What must stand in the numbers that the Rust has not: the choices, what the last call passed over, and what is kept
+    /// for later.
     rest: Decoder,
     /// The Rust's last frame.
     heard: Vec<f32>,
@@ -93,6 +95,7 @@ impl<'a> Both<'a> {
     /// Opens both on a stream, with so many values lent beyond memory and output. The Rust knows no choices.
     pub fn open(tally: &'a mut Tally, name: &'a str, stream: &[u8], beyond: usize, choices: u32) -> Self {
         let mut memory = vec![GUARD; MEMORY + beyond];
+        let told = by_01(stream, 0, NO_FORMAT);
         let (ours, opened) = Decoder::new(stream, &mut memory, choices);
         let mut both = Both {
             tally,
@@ -102,11 +105,10 @@ impl<'a> Both<'a> {
             memory,
             output: vec![GUARD; OUTPUT + beyond],
             audio: Audio::new(stream.to_vec()),
-            rest: written(&fresh(choices)),
+            rest: written(&fresh(choices), told.skipped),
             heard: vec![GUARD; OUTPUT],
         };
-        let told = by_01(stream, 0, NO_FORMAT).number;
-        both.answered("opening", told, number_of(opened), told, stream);
+        both.answered("opening", told.number, number_of(opened), told.number, stream);
         both.values(stream);
         both
     }
@@ -173,15 +175,25 @@ impl<'a> Both<'a> {
         self.audio.lend(stream);
     }
 
+    /// At seeded moments, any bits where the last call told what it passed over: no call reads them.
+    pub fn litter(&mut self, s: &mut Seeded) {
+        if s.below(2) == 0 {
+            self.ours.places[place::SKIPPED] = any(s);
+        }
+    }
+
     /// The question about the format, against the Rust's pair, which asks for a header and then for the rate, and against the
-    /// kbps and the mode that it keeps to itself. Asked again it tells the same, and leaves the same.
+    /// kbps and the mode that it keeps to itself. Asked again it tells the same, leaves the same, and passes over nothing.
     pub fn format(&mut self, stream: &[u8]) {
-        let number = match self.audio.knows_header() {
-            true => 0,
-            false => by_01(stream, self.audio.at(), NO_FORMAT).number,
+        let (number, skipped) = match self.audio.knows_header() {
+            true => (0, 0),
+            false => {
+                let sought = by_01(stream, self.audio.at(), NO_FORMAT);
+                (sought.number, sought.skipped)
+            }
         };
         let ours = self.ours.format(stream);
-        self.rest = written(&self.rest);
+        self.rest = written(&self.rest, skipped);
         let told = match self.audio.has_header() {
             true => Ok(firmware::Format {
                 rate: self.audio.samplerate(),
@@ -193,6 +205,7 @@ impl<'a> Both<'a> {
         self.answered("format", number, ours, told, stream);
         if told.is_ok() {
             let again = self.ours.format(stream);
+            self.rest = written(&self.rest, 0);
             self.answered("format again", number, again, told, stream);
         }
     }
@@ -202,7 +215,7 @@ impl<'a> Both<'a> {
         let reading = decode_by_01(stream, self.audio.at(), self.audio.format(), self.audio.pending());
         let answer = self.ours.decode(stream, &mut self.memory, &mut self.output);
         let ours = answer.map(|frame| (frame.start.to_bits(), frame.bits));
-        self.rest = written(&self.rest);
+        self.rest = written(&self.rest, reading.skipped);
         let told = match self.audio.decode() {
             Some(samples) => {
                 self.heard = samples.interleaved;
@@ -238,7 +251,7 @@ impl<'a> Both<'a> {
             .ours
             .decode(stream, &mut self.memory[..memory], &mut self.output[..output]);
         let ours = answer.map(|frame| (frame.start.to_bits(), frame.bits));
-        self.rest = written(&self.rest);
+        self.rest = written(&self.rest, 0);
         self.answered("listed: decode", number, ours, Err(Refusal(number)), stream);
         self.values(stream);
     }
@@ -246,7 +259,7 @@ impl<'a> Both<'a> {
     /// The same for the question about the format.
     pub fn format_refused(&mut self, stream: &[u8], number: u32) {
         let ours = self.ours.format(stream);
-        self.rest = written(&self.rest);
+        self.rest = written(&self.rest, 0);
         self.answered("listed: format", number, ours, Err(Refusal(number)), stream);
     }
 }

@@ -2,6 +2,7 @@
 
 use crate::files::files;
 use crate::frames::{format, FORMATS};
+use crate::junk;
 use crate::seeded::{header as some_header, Seeded, CORNERS};
 use crate::source::Format;
 
@@ -28,7 +29,7 @@ impl Clips {
 
 pub type Class = (&'static str, fn(&mut Seeded, &Clips) -> Vec<u8>);
 
-pub const STREAMS: [Class; 9] = [
+pub const STREAMS: [Class; 11] = [
     ("frames of every format", |s, _| frames(s)),
     ("clip with bits turned", turned),
     ("clip with bytes taken out", taken_out),
@@ -43,6 +44,8 @@ pub const STREAMS: [Class; 9] = [
         stream
     }),
     ("headers among junk", headers_among_junk),
+    ("any junk in front", junk_in_front),
+    ("zero runs between frames", |s, _| zero_runs(s)),
     ("corner bytes", |s, _| {
         let length = s.below(200);
         s.bytes(length, |s| s.one_of(&CORNERS))
@@ -101,6 +104,43 @@ fn headers_among_junk(s: &mut Seeded, _: &Clips) -> Vec<u8> {
     let rest = s.below(250);
     stream.extend(s.bytes(rest, |s| s.byte() & s.byte()));
     stream
+}
+
+/// Junk of a few bytes or many, then a clip, frames, or one header with little behind it.
+fn junk_in_front(s: &mut Seeded, clips: &Clips) -> Vec<u8> {
+    let most = s.one_of(&[41, 41, 41, 2_000]);
+    let length = s.below(most);
+    let front = junk::some(s, length);
+    let rest = match s.below(4) {
+        0 => clips.piece(s),
+        1 => frames(s),
+        _ => junk::some_header(s),
+    };
+    [front, rest].concat()
+}
+
+/// Frames of one format with zeros in front of each and behind the last, some runs with a byte that is none at their end.
+fn zero_runs(s: &mut Seeded) -> Vec<u8> {
+    let own = format(s.below(FORMATS));
+    let mut stream = Vec::new();
+    for _ in 0..2 + s.below(3) {
+        stream.extend(zeros(s));
+        let extension = s.below(4);
+        let (bytes, size) = header(own, extension, s);
+        stream.extend(bytes);
+        stream.extend(payload(s, size));
+    }
+    stream.extend(zeros(s));
+    stream
+}
+
+fn zeros(s: &mut Seeded) -> Vec<u8> {
+    let most = s.one_of(&[3, 41, 300]);
+    let mut run = vec![0; s.below(most)];
+    if s.below(4) == 0 {
+        run.push(s.one_of(&CORNERS));
+    }
+    run
 }
 
 fn header(f: Format, extension: usize, s: &mut Seeded) -> (Vec<u8>, usize) {

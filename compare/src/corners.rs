@@ -49,6 +49,12 @@ fn junk_in_front(clip: &[u8]) -> Vec<Named> {
     [1, 5, 36, 44, 600, 3_000].map(named).into()
 }
 
+/// Each kind of junk in front of each kind of header, one byte of it and seven.
+fn junk_of_each_kind() -> Vec<Named> {
+    let all = [1, 7].into_iter().flat_map(crate::junk::every);
+    all.map(|junk| ("junk of each kind", junk.name, junk.stream)).collect()
+}
+
 /// Every two of five formats, one frame after the other: of two that differ the second is refused with 6.
 fn formats() -> Vec<Named> {
     let quiet = [MONO_44100, MONO_48000, MONO_32000, STEREO].map(|format| silent(format, 0));
@@ -94,6 +100,13 @@ pub fn named(clip: &[u8]) -> Vec<Named> {
         "behind a loud frame".to_string(),
         dense_behind(),
     );
-    let parts = [no_frame(), junk_in_front(clip), formats(), lengths(clip), vec![behind]];
+    let parts = [
+        no_frame(),
+        junk_in_front(clip),
+        junk_of_each_kind(),
+        formats(),
+        lengths(clip),
+        vec![behind],
+    ];
     parts.concat()
 }

@@ -1,21 +1,27 @@
 //! Whole decoders on classes of streams: what is called on them, and in which order. `both` compares each call.
 
 use crate::both::{number_of, state_of, Both, GUARD};
+use crate::by_01::by_01;
 use crate::classes::{payload, Clips, STREAMS};
 use crate::files::files;
 use crate::firmware::{place, Decoder, COUNTS, MEMORY, OUTPUT, PLACES, STREAM};
+use crate::junk;
 use crate::saved::{self, fresh, written};
 use crate::seeded::Seeded;
+use crate::source::NO_FORMAT;
 use crate::tally::Tally;
 use std::time::Instant;
 
-/// Calls both until neither moves any more, and twice again, with the question about the format at seeded moments.
+/// Calls both until neither moves any more, and twice again, with the question about the format at seeded moments, and with
+/// any bits in the place that is told and not read.
 fn to_the_end(both: &mut Both, stream: &[u8], s: &mut Seeded) {
     let mut still = 0;
     while still < 3 {
         let before = both.state();
+        both.litter(s);
         if s.below(2) == 0 {
             both.format(stream);
+            both.litter(s);
         }
         both.decode(stream);
         still = if both.state() == before { still + 1 } else { 0 };
@@ -46,6 +52,7 @@ fn changing(tally: &mut Tally, name: &str, clips: &Clips, s: &mut Seeded) {
     for _ in 0..3 + s.below(10) {
         stream = &streams[s.below(streams.len())];
         both.lend(stream);
+        both.litter(s);
         match s.below(4) {
             0 => both.format(stream),
             _ => both.decode(stream),
@@ -79,6 +86,7 @@ fn go_on(mut both: Both, stream: &[u8], s: &mut Seeded) {
         if s.below(2) == 0 {
             both.format(stream);
         }
+        both.litter(s);
         both.decode(stream);
     }
 }
@@ -95,9 +103,9 @@ fn spoilt(tally: &mut Tally, name: &str, clips: &Clips, s: &mut Seeded) {
     }
 }
 
-/// The numbers that nothing reads are written anew.
+/// The numbers that nothing reads are written anew: nothing was passed over.
 fn refused_by_all(tally: &mut Tally, name: &str, d: &mut Decoder, stream: &[u8], memory: &[f32]) {
-    let (before, output) = (written(d), vec![GUARD; OUTPUT]);
+    let (before, output) = (written(d, 0), vec![GUARD; OUTPUT]);
     let (mut lent_memory, mut lent_output) = (memory.to_vec(), output.clone());
     let numbers = [
         number_of(d.format(stream)),
@@ -132,6 +140,7 @@ fn little_room(tally: &mut Tally, name: &str, clips: &Clips, s: &mut Seeded) {
     );
     let both = &mut Both::resume(tally, name, &stream, d, lent);
     for _ in 0..2 + s.below(5) {
+        both.litter(s);
         match s.below(4) {
             0 => both.refused(&stream, 9, less(s, MEMORY), OUTPUT),
             1 => both.refused(&stream, 9, MEMORY, less(s, OUTPUT)),
@@ -196,6 +205,18 @@ fn every_header(tally: &mut Tally) {
         let length = s.one_of(&[2, 60, 110, 230]);
         stream.extend(payload(s, length));
         whole(tally, "every header", &format!("{number:05X}"), &stream, s);
+    }
+}
+
+/// Junk of every length to 40 in front of each kind of header. Where its length is what must be told, the model tells it.
+fn every_junk(tally: &mut Tally) {
+    for junk in (0..=40).flat_map(junk::every) {
+        let s = &mut Seeded::new(junk.stream.len() as u64);
+        whole(tally, "junk of every length", &junk.name, &junk.stream, s);
+        if let Some(passed) = junk.passed {
+            let told = by_01(&junk.stream, 8 * junk.at, NO_FORMAT).skipped;
+            tally.same("junk by its length", told, passed, || junk.name.clone());
+        }
     }
 }
 
@@ -272,18 +293,29 @@ fn too_long(tally: &mut Tally, frame: Vec<u8>) {
     both.format_refused(&long, 8);
 }
 
+/// An opening past the wrapper, over any bits: its number, and the places that it leaves.
+fn opened_over(stream: &[u8], room: usize) -> (u32, [u64; PLACES]) {
+    use crate::firmware::boundary::tag_open;
+    let (mut places, mut counts, mut time) = ([7; PLACES], [7; COUNTS], [7.0]);
+    let mut memory = [GUARD; MEMORY];
+    let (data, length, ring) = (stream.as_ptr(), stream.len() as u64, memory.as_mut_ptr());
+    let number = unsafe { tag_open(data, length, ring, room as u64, &mut places, &mut counts, &mut time, 0) };
+    (number, places)
+}
+
 /// Both calls that leave numbers beside their answer, past the wrapper, from a state that knows a header: the answers of
-/// decode and format, each with what stands beside it.
-fn beside(stream: &[u8], room: usize, ring: u64) -> ((u32, u64, u64), (u32, [u32; 3])) {
+/// decode and format, each with what stands beside it and with what was passed over.
+fn beside(stream: &[u8], room: usize, ring: u64) -> ((u32, u64, u64, u64), (u32, [u32; 3], u64)) {
     use crate::firmware::boundary::{tag_decode, tag_format};
     let (mut places, mut counts, mut time) = ([0; PLACES], [0; COUNTS], [0.0]);
-    places[place::RING] = ring;
+    (places[place::RING], places[place::SKIPPED]) = (ring, 7);
     let (mut memory, mut output) = ([GUARD; MEMORY], [GUARD; OUTPUT]);
     let (mut rate, mut kbps, mut mode, mut start, mut bits) = ([7], [7], [7], [-1.0], [7]);
     let (data, length, room) = (stream.as_ptr(), stream.len() as u64, room as u64);
     let (ring, sound) = (memory.as_mut_ptr(), output.as_mut_ptr());
     let (places, counts, time) = (&mut places, &mut counts, &mut time);
     let told = unsafe { tag_format(data, length, places, counts, time, &mut rate, &mut kbps, &mut mode) };
+    let passed = std::mem::replace(&mut places[place::SKIPPED], 7);
     let (start_at, bits_at) = (&mut start, &mut bits);
     let number = unsafe {
         tag_decode(
@@ -301,7 +333,10 @@ fn beside(stream: &[u8], room: usize, ring: u64) -> ((u32, u64, u64), (u32, [u32
         )
     };
     let format = [rate[0], kbps[0], mode[0]];
-    ((number, start[0].to_bits(), bits[0]), (told, format))
+    (
+        (number, start[0].to_bits(), bits[0], places[place::SKIPPED]),
+        (told, format, passed),
+    )
 }
 
 /// Where two refusals hold, 01's order decides: 8, 9, 10. Beside each there are zeros. The format is told whatever is lent
@@ -309,21 +344,34 @@ fn beside(stream: &[u8], room: usize, ring: u64) -> ((u32, u64, u64), (u32, [u32
 fn order(tally: &mut Tally) {
     tally.stream("two refusals at once");
     let long = vec![0; STREAM + 1];
-    let known = (0, [44_100, 32, 0]);
+    let known = (0, [44_100, 32, 0], 0);
     for (length, room, ring, number, told) in [
-        (STREAM + 1, 0, 1, 8, (8, [0; 3])),
-        (STREAM + 1, MEMORY, 1, 8, (8, [0; 3])),
-        (STREAM + 1, MEMORY, 0, 8, (8, [0; 3])),
-        (STREAM, 0, 1, 9, (10, [0; 3])),
-        (STREAM, MEMORY, 1, 10, (10, [0; 3])),
+        (STREAM + 1, 0, 1, 8, (8, [0; 3], 0)),
+        (STREAM + 1, MEMORY, 1, 8, (8, [0; 3], 0)),
+        (STREAM + 1, MEMORY, 0, 8, (8, [0; 3], 0)),
+        (STREAM, 0, 1, 9, (10, [0; 3], 0)),
+        (STREAM, MEMORY, 1, 10, (10, [0; 3], 0)),
         (STREAM, 0, 0, 9, known),
         (0, MEMORY, 0, 1, known),
     ] {
         tally.same(
             "listed: order, and zeros beside",
             beside(&long[..length], room, ring),
-            ((number, 0, 0), told),
+            ((number, 0, 0, 0), told),
             || format!("{length} bytes, room {room}, ring {ring}"),
+        );
+    }
+    for (length, room, number) in [
+        (STREAM + 1, 0, 8),
+        (STREAM + 1, MEMORY, 8),
+        (STREAM, 0, 9),
+        (0, MEMORY, 1),
+    ] {
+        tally.same(
+            "listed: opening over any bits",
+            opened_over(&long[..length], room),
+            (number, fresh(0).places),
+            || format!("{length} bytes, room {room}"),
         );
     }
 }
@@ -358,6 +406,7 @@ pub fn compare(tally: &mut Tally, words: &[String]) {
             published(tally, "files of crates/replay/data", "crates/replay/data");
             every_header(tally);
             every_cut(tally);
+            every_junk(tally);
             longest(tally);
             order(tally);
             let count = number(0).unwrap_or(300_000);

@@ -1,9 +1,10 @@
-//! One attempt at a header: number, position, format and data size against the Rust's `decode_header`. The Rust gives
-//! a size or 0; which of 01's numbers a 0 stands for is told by `by_01`, whose position and size must be the Rust's.
+//! One attempt at a header: number, position, format, data size and the byte of its FF against the Rust's `decode_header`. The
+//! Rust gives a size or 0; which of 01's numbers a 0 stands for is told by `by_01`, whose position and size must be the
+//! Rust's, and whose FF must stand where the Rust read on behind it.
 
 use crate::by_01::by_01;
 use crate::seeded::{every, header, Seeded, CLASSES};
-use crate::source::mpeg::audio::Audio;
+use crate::source::traced::audio::Audio;
 use crate::source::{Format, NO_FORMAT};
 use crate::tag;
 use crate::tally::{hex, Tally};
@@ -26,15 +27,23 @@ impl Sides<'_> {
         let (after, format) = (self.source.at(), self.source.format());
         let [samplerate, bitrate, mode, bound] = as_numbers(format);
         let expected = by_01(stream, at, known);
+        let sync = match expected.number {
+            1 => at.div_ceil(8),
+            _ => self.source.sync().unwrap_or(stream.len()),
+        };
         let say = || format!("{class}, seed {seed}, at bit {at}, known {known:?}, {}", hex(stream));
         self.tally.same(
             &format!("number {}", expected.number),
-            (number, answer, expected.at, expected.size, samplerate != 3),
+            (
+                number,
+                answer,
+                [expected.at, expected.size, expected.sync],
+                samplerate != 3,
+            ),
             (
                 expected.number,
-                [after, samplerate, bitrate, mode, bound, size],
-                after,
-                size,
+                [after, samplerate, bitrate, mode, bound, size, sync],
+                [after, size, sync],
                 self.source.knows_header(),
             ),
             say,
@@ -210,7 +219,7 @@ fn limits(sides: &mut Sides) {
         let stream = vec![0xFF; length];
         let known = some_format(&mut Seeded::new(at as u64));
         let [samplerate, bitrate, mode, bound] = as_numbers(known);
-        let expected = (number, [at, samplerate, bitrate, mode, bound, 0]);
+        let expected = (number, [at, samplerate, bitrate, mode, bound, 0, at.div_ceil(8)]);
         let ours = tag::header(&stream, at, as_numbers(known));
         sides.tally.stream("past 01's limits");
         sides.tally.same(&format!("number {number}"), ours, expected, || {

@@ -7,7 +7,13 @@ mod answers;
 mod bench;
 #[cfg(layer = "decode")]
 mod both;
-#[cfg(any(layer = "answers", layer = "header", layer = "decode", layer = "wav"))]
+#[cfg(any(
+    layer = "answers",
+    layer = "reader",
+    layer = "header",
+    layer = "decode",
+    layer = "wav"
+))]
 mod by_01;
 #[cfg(any(layer = "decode", layer = "wav"))]
 mod by_02;
@@ -40,6 +46,8 @@ mod frames;
 mod grow;
 #[cfg(layer = "header")]
 mod header;
+#[cfg(any(layer = "decode", layer = "wav", layer = "cortex"))]
+mod junk;
 #[cfg(any(layer = "wav", layer = "cortex"))]
 mod loud;
 #[cfg(layer = "reader")]

@@ -1,5 +1,7 @@
-//! The reader's eight calls: answer, position and count against the Rust's.
+//! The reader's eight calls: answer, position and count against the Rust's. What a search passed over is told by `by_01`,
+//! whose find and position must be the Rust's.
 
+use crate::by_01::search_by_02;
 use crate::seeded::{every, Seeded, CLASSES, CORNERS};
 use crate::source::mpeg::buffer::Buffer;
 use crate::tag;
@@ -19,13 +21,14 @@ const HAS: usize = 0;
 const READ: usize = 2;
 const SKIP: usize = 4;
 const SKIP_BYTES: usize = 5;
+const FIND_FRAME_SYNC: usize = 7;
 
 /// 01's limits: the longest stream in bytes, the farthest position in bits.
 const LONGEST: usize = 16_777_216;
 const FARTHEST: usize = 134_217_736;
 
-/// 01's number, the value, and the bit position afterwards.
-type Answer = (u32, [usize; 2]);
+/// 01's number, the value, and the bit position afterwards; of a search the byte of the FF, and the bytes passed over.
+type Answer = (u32, [usize; 4]);
 
 /// A stream, on both sides.
 struct Lent {
@@ -95,6 +98,15 @@ impl Lent {
         }
     }
 
+    /// What the port must give: the Rust's answer, and behind it a search's two numbers. Beside it what the Rust must give.
+    fn with_search(&self, call: usize, at: usize, source: [usize; 2]) -> ([usize; 4], [usize; 2]) {
+        if call != FIND_FRAME_SYNC {
+            return ([source[0], source[1], 0, 0], source);
+        }
+        let told = search_by_02(&self.stream, at);
+        (told, [told[0], told[1]])
+    }
+
     /// Compares one call, and gives the position at which both go on.
     fn compare(&mut self, tally: &mut Tally, call: usize, at: usize, argument: usize) -> usize {
         let ours = tag::reader(call as u32, &self.stream, at, argument);
@@ -110,10 +122,11 @@ impl Lent {
             )
         };
         if number == 0 {
-            tally.same(group, ours, (0, source), say);
+            let (told, by_01) = self.with_search(call, at, source);
+            tally.same(group, (ours, by_01), ((0, told), source), say);
             return source[1];
         }
-        let expected: (Answer, [usize; 2]) = ((number, [0, at]), self.wide_or_short(at, argument));
+        let expected: (Answer, [usize; 2]) = ((number, [0, at, 0, 0]), self.wide_or_short(at, argument));
         let by_the_rust = if call == READ { source } else { expected.1 };
         tally.same(group, (ours, by_the_rust), expected, say);
         at
@@ -129,7 +142,7 @@ impl Lent {
         for byte in CORNERS {
             self.compare(tally, SKIP_BYTES, at, byte as usize);
         }
-        for call in [1, 3, 6, 7] {
+        for call in [1, 3, 6, FIND_FRAME_SYNC] {
             self.compare(tally, call, at, 0);
         }
     }

@@ -35,19 +35,25 @@ pub fn fresh(choices: u32) -> Decoder {
     d
 }
 
+/// Any bits of a place.
+pub fn any(s: &mut Seeded) -> u64 {
+    (s.below(1 << 32) << 32 | s.below(1 << 32)) as u64
+}
+
 /// Any bits in what nothing reads: the last two places, the counts behind the choices, and the choices' bits above five, which stay as they are.
 pub fn littered(s: &mut Seeded, mut d: Decoder) -> Decoder {
-    let mut any = || (s.below(1 << 32) << 32 | s.below(1 << 32)) as u64;
+    let mut any = || any(s);
     d.places[place::FRAME_END..].fill_with(&mut any);
     d.counts[count::CHOICES] |= (any() as u32) << 5;
     d.counts[count::CHOICES + 1..].fill_with(|| any() as u32);
     d
 }
 
-/// The same numbers as a call writes them.
-pub fn written(d: &Decoder) -> Decoder {
+/// The same numbers as a call writes them that passed over so many bytes.
+pub fn written(d: &Decoder, skipped: usize) -> Decoder {
     let mut d = *d;
-    d.places[place::FRAME_END..].fill(0);
+    d.places[place::FRAME_END] = 0;
+    d.places[place::SKIPPED] = skipped as u64;
     d.counts[count::CHOICES + 1..].fill(0);
     d
 }

@@ -42,7 +42,8 @@ pub mod mpeg {
 }
 
 /// The same text of audio.rs over a buffer that hands every call on and remembers places: where a frame's data was
-/// asked for, where each read began, and where the frame was aligned. The Rust itself does not count bits.
+/// asked for, where each read began, and where the frame was aligned. The Rust itself does not count bits, or the bytes in
+/// front of a header.
 pub mod traced {
     pub mod buffer {
         use crate::source::mpeg::buffer::Buffer as Source;
@@ -86,7 +87,9 @@ pub mod traced {
                 self.source.skip(count);
             }
 
+            /// A header attempt begins by it, and forgets the reads before.
             pub fn skip_bytes(&mut self, v: u8) -> usize {
+                self.reads.clear();
                 self.source.skip_bytes(v)
             }
 
@@ -113,6 +116,11 @@ pub mod traced {
             pub fn began(&self, n: usize) -> usize {
                 self.reads.get(n).copied().unwrap_or(self.aligned_from)
             }
+
+            /// The byte of the FF that the last header attempt found. Its second read, the version, is eleven bits behind it.
+            pub fn sync(&self) -> Option<usize> {
+                self.reads.get(1).map(|at| (at - 11) / 8)
+            }
         }
     }
 
@@ -130,6 +138,11 @@ pub mod traced {
             /// Where read `n` of a frame began, its first allocation being read 0.
             pub fn began(&self, n: usize) -> usize {
                 self.buffer.began(n)
+            }
+
+            /// The byte of the FF that the last header attempt found.
+            pub fn sync(&self) -> Option<usize> {
+                self.buffer.sync()
             }
         }
     }

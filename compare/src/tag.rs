@@ -10,7 +10,7 @@ mod boundary {
             length: usize,
             at: usize,
             argument: usize,
-            answer: *mut [usize; 2],
+            answer: *mut [usize; 4],
         ) -> u32;
         #[cfg(layer = "bench")]
         pub fn probe_read_run(stream: *const u8, length: usize, at: usize, width: usize, times: usize) -> u64;
@@ -20,7 +20,7 @@ mod boundary {
             length: usize,
             at: usize,
             known: *const [usize; 4],
-            answer: *mut [usize; 6],
+            answer: *mut [usize; 7],
         ) -> u32;
         #[cfg(any(layer = "codes", layer = "sound"))]
         pub fn probe_layout(mode: u32, bitrate: usize, samplerate: usize, bound: usize, answer: *mut [usize; 3]);
@@ -61,10 +61,11 @@ mod boundary {
     }
 }
 
-/// The number, and the answer: the value and the bit position afterwards.
+/// The number, and the answer: the value and the bit position afterwards; of a search the byte of the FF, and the bytes
+/// passed over.
 #[cfg(layer = "reader")]
-pub fn reader(call: u32, stream: &[u8], at: usize, argument: usize) -> (u32, [usize; 2]) {
-    let mut answer = [usize::MAX; 2];
+pub fn reader(call: u32, stream: &[u8], at: usize, argument: usize) -> (u32, [usize; 4]) {
+    let mut answer = [usize::MAX; 4];
     let number = unsafe { boundary::reading_reader(call, stream.as_ptr(), stream.len(), at, argument, &mut answer) };
     (number, answer)
 }
@@ -75,10 +76,10 @@ pub fn read_run(stream: &[u8], at: usize, width: usize, times: usize) -> u64 {
     unsafe { boundary::probe_read_run(stream.as_ptr(), stream.len(), at, width, times) }
 }
 
-/// The number, and the answer: the bit position afterwards, the format (four), the pending data size.
+/// The number, and the answer: the bit position afterwards, the format (four), the pending data size, the byte of the FF.
 #[cfg(layer = "header")]
-pub fn header(stream: &[u8], at: usize, known: [usize; 4]) -> (u32, [usize; 6]) {
-    let mut answer = [usize::MAX; 6];
+pub fn header(stream: &[u8], at: usize, known: [usize; 4]) -> (u32, [usize; 7]) {
+    let mut answer = [usize::MAX; 7];
     let number = unsafe { boundary::reading_header(stream.as_ptr(), stream.len(), at, &known, &mut answer) };
     (number, answer)
 }

@@ -3,18 +3,22 @@
 // Only 1 and 7 are the end. 8, 9 and 10 are the caller's mistake. After every other number the next call may give a frame.
 export const goesOn = (number) => ![1, 7, 8, 9, 10].includes(number);
 
-// `position` is the bit where the call left the decoder, `bits` what its frame used.
+const NO_HEADER = [1, 2, 8, 9, 10]; // numbers of a call that met none
+
+// `position` is the bit where the call left the decoder, `bits` what its frame used, `skipped` the bytes that it passed over
+// on its way to a header.
 export class Calls {
-    constructor(stream, columns = { number: [], position: [], bits: [] }, format = {}) {
+    constructor(stream, columns = { number: [], position: [], bits: [], skipped: [] }, format = {}) {
         Object.assign(this, { stream, format }, columns);
     }
 
     get count() { return this.number.length; }
 
-    add(number, position, bits) {
+    add(number, position, bits, skipped) {
         this.number.push(number);
         this.position.push(position);
         this.bits.push(bits);
+        this.skipped.push(skipped);
     }
 
     isFrame(row) { return this.number[row] === 0; }
@@ -29,16 +33,8 @@ export class Calls {
     // Where a frame's data begin: so many bits before the aligned end.
     data(row) { return this.at(row) - ((this.bits[row] + 7) >>> 3); }
 
-    // The FF of the header that a call met, or -1. It is found again from where the call stopped reading: behind the
-    // protection bit (3), the bit rate (4), the sample rate (5), the mode (6); or behind the 4 bytes of a header, the 6 of
-    // one with a check word, the 3 that are left of one that is cut.
-    header(row) {
-        const number = this.number[row], bytes = this.stream;
-        if (number >= 3 && number <= 6) return this.at(row) - (number === 6 ? 3 : 2);
-        if (number !== 0 && number !== 7) return -1;
-        const data = number === 0 ? this.data(row) : this.at(row);
-        return [4, 6, 3].map((back) => data - back).find((at) => bytes[at] === 255 && (bytes[at + 1] & 254) === 252) ?? -1;
-    }
+    // The FF of the header that a call met, or -1. Between the byte where the call begins and this one is what it passed over.
+    header(row) { return NO_HEADER.includes(this.number[row]) ? -1 : this.begins(row) + this.skipped[row]; }
 
     // How many frames stand before a row.
     framesBefore(row) {
@@ -67,8 +63,8 @@ export class Calls {
 
     // A row as the lister prints it. A frame's own number is how many frames stand before it.
     text(row, framesBefore) {
-        const { rate, kbps, mode } = this.format, number = this.number[row];
-        if (number === 0) return `frame ${framesBefore} at ${this.data(row)} rate ${rate} kbps ${kbps} mode ${mode} bits ${this.bits[row]}`;
-        return `${goesOn(number) ? "refused" : "end"} ${number} at ${this.at(row)}`;
+        const { rate, kbps, mode } = this.format, number = this.number[row], skipped = `skipped ${this.skipped[row]}`;
+        if (number === 0) return `frame ${framesBefore} at ${this.data(row)} rate ${rate} kbps ${kbps} mode ${mode} bits ${this.bits[row]} ${skipped}`;
+        return `${goesOn(number) ? "refused" : "end"} ${number} at ${this.at(row)} ${skipped}`;
     }
 }

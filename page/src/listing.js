@@ -94,6 +94,7 @@ export class Listing {
     constructor(decoder, stream, choices) {
         const number = decoder.open(choices);
         Object.assign(this, { decoder, stream, calls: new Calls(stream), tally: [], map: new ByteMap(stream.length), every: 16 });
+        this.carried = number === 0 ? decoder.skipped : 0; // a header accepted at opening has no row: its number goes to the next
         this.copies = [decoder.save()];
         this.done = !goesOn(number) && number !== 1;
         if (number > 1) this.note(number);
@@ -111,7 +112,8 @@ export class Listing {
 
     note(number) {
         const { decoder, calls } = this, row = calls.count;
-        calls.add(number, decoder.position, number === 0 ? decoder.bits : 0);
+        calls.add(number, decoder.position, number === 0 ? decoder.bits : 0, this.carried + decoder.skipped);
+        this.carried = 0;
         const says = this.says(calls.header(row)), tally = (this.tally[number] ??= { count: 0, first: row, says, alike: true });
         tally.count++;
         tally.alike &&= tally.says === says;

@@ -66,6 +66,7 @@ export class Decoder {
     }
 
     get position() { return this.places[0]; }
+    get skipped() { return this.places[14]; } // the eighth place: of the last call, and no part of the state
     get frames() { return this.counts[1]; }
     get start() { return this.began[0]; }
     get bits() { return this.used[0]; }

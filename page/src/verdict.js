@@ -23,8 +23,8 @@ const MISSING = {
 };
 
 function outside(where, bytes, frames) {
-    const [place, part] = MISSING[where], passed = `${place} ${counted(bytes, "byte")} ${bytes === 1 ? "was" : "were"} passed over.`;
-    return frames ? `${passed} That is room for ${counted(frames, "frame")}: ${part} may be missing. Have the file sent again.` : passed;
+    const [place, part] = MISSING[where], stray = `${place} ${counted(bytes, "byte")} ${bytes === 1 ? "belongs" : "belong"} to no frame.`;
+    return frames ? `${stray} That is room for ${counted(frames, "frame")}: ${part} may be missing. Have the file sent again.` : stray;
 }
 
 // Whether bytes that stand in no frame may be the rest of one. A title or zeros in front may not, nor less than a frame behind.

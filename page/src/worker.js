@@ -36,7 +36,8 @@ const jobs = {
         const listing = new Listing(new Decoder(module, stream), stream, choices), { calls, map } = listing;
         await paced(id, () => listing.step(), () => listing.share);
         clips.set(key, Object.assign(listing, { id }));
-        const columns = { number: Uint8Array.from(calls.number), position: Uint32Array.from(calls.position), bits: Uint32Array.from(calls.bits) };
+        const wide = (name) => Uint32Array.from(calls[name]);
+        const columns = { number: Uint8Array.from(calls.number), position: wide("position"), bits: wide("bits"), skipped: wide("skipped") };
         const wave = { values: Float32Array.from(listing.outline?.values ?? []), frames: listing.format.frames };
         return { id, columns, wave, tally: listing.tally, format: listing.format, map: map.columns, bytes: map.bytes };
     },

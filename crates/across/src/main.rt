@@ -18,13 +18,14 @@ fn put_bits(n: u64) -> bool {
     io::write_all(STDOUT_FILENO, b" ") & io::print_hex(STDOUT_FILENO, n, 16)
 }
 
-// The six places and two counts that say something, and the next start.
+// The six places of the state, what the call passed over, two counts, and the next start.
 fn put_state(places: &[usize; 8], counts: &[u32; 8], time: &[f64; 1]) -> bool {
     let first = put_number(places[0] as u64) & put_number(places[1] as u64);
     let second = put_number(places[2] as u64) & put_number(places[3] as u64);
     let third = put_number(places[4] as u64) & put_number(places[5] as u64);
+    let passed = put_number(places[7] as u64);
     let counted = put_count(counts[0]) & put_count(counts[1]);
-    first & second & third & counted & put_bits(text::time_bits(time[0]))
+    first & second & third & passed & counted & put_bits(text::time_bits(time[0]))
 }
 
 fn put_frame(start: f64, bits: usize, output: &[f32; synthesis::OUTPUT]) -> bool {

@@ -1,18 +1,17 @@
 -- What the port's fields read where a header's bits are there, and what it keeps of them, against the standard's fields at a byte: to the
 -- same bits, and twelve ones with ID 1 for eleven ones with "version" 3. Assumes nothing.
-use Prim.Native.Nat.{ℕ, _+_, _-_, _*_, _/_, _%_, _≤_}
-use mathlib.Core.Path.{_≡_, refl, ap, _∙_}
-use mathlib.Core.Bool.{Bool, true, false, _&&_}
+use Prim.Native.Nat.{ℕ, _+_, _-_, _*_, _≤_}
+use mathlib.Core.Path.{_≡_, ap, _∙_}
+use mathlib.Core.Bool.{Bool, _&&_}
 use mathlib.Core.List.{List}
 use native.Mathlib.Omega.{arith}
 use lib.Dec.{T, eqb, leb, eqb→eq, leb→le}
-use lib.ListN.{length, getD}
-use borrow.Author.Tests.{eqb-true}
+use lib.ListN.{length}
 use Rattle.ground.specs.Tests.{by-test}
 use Rattle.ground.specs.Upto.{and-left, and-right}
-use Rattle.buffer.specs.Bits.{longestStream, bitsValue, pairAt}
+use Rattle.buffer.specs.Bits.{longestStream, bitsValue}
 use Rattle.buffer.specs.Calls.{readerAt, fieldOf}
-use Rattle.buffer.specs.Laws.{split, bits-below, in-byte, byte-at, field-whole}
+use Rattle.buffer.specs.Laws.{split, bits-below, field-whole}
 use Rattle.buffer.specs.declared.Reader.{Reader}
 use Rattle.buffer.specs.declared.Field.{Field}
 use Rattle.tables.specs.Standard.{kbpsOf, sblimit}
@@ -165,17 +164,3 @@ module _ (s : List ℕ) (byte : ℕ) (short : length s ≤ longestStream) where
       let n : bitsValue s (byte * 8 + 11 + 1) 1 ≡ bitsValue s (byte * 8 + 12) 1 = ap (λ (k : ℕ). bitsValue s k 1) (omega arith) in
       let k = bits-below s (byte * 8 + 12) 1 in
       (omega arith, omega arith)
-
--- FF then FC or FD begin with eleven ones
-pub pair-ones : (s : List ℕ) (i : ℕ) → pairAt s i ≡ true → bitsValue s (i * 8) 11 ≡ 2047
-pair-ones s i e =
-    let first : getD s i 0 ≡ 255 = both-bytes (eqb (getD s i 0) 255) refl .0 in
-    let second : getD s (i + 1) 0 / 2 ≡ 126 = both-bytes (eqb (getD s i 0) 255) refl .1 in
-    let place : (i * 8 + 8) / 8 ≡ i + 1 = omega arith in
-    let start : (i * 8 + 8) % 8 ≡ 0 = omega arith in
-    let high : bitsValue s (i * 8 + 8) 3 ≡ getD s (i + 1) 0 / 32 % 8 = rw (place, start) at (in-byte s (i * 8 + 8) 3 (omega arith)) in
-    omega (arith, split s (i * 8) 8 3, byte-at s i)
-  where
-    both-bytes : (t : Bool) → eqb (getD s i 0) 255 ≡ t → (getD s i 0 ≡ 255) × (getD s (i + 1) 0 / 2 ≡ 126)
-    both-bytes true t = (eqb-true _ _ t, eqb-true _ _ (rw t at e))
-    both-bytes false t = absurd (let z : false ≡ true = rw t at e in let n : _≡_ {A = ℕ} 0 1 = cc in omega arith)

@@ -1,6 +1,6 @@
 -- The port's header and the standard's, both ways. Where a header of ISO/IEC 11172-3 stands at a byte that an attempt reaches, the port
 -- accepts it, with the standard's fields, bound and frame size. And a header that the port accepts, all of its bits being there, is one of
--- the standard's, at a byte from the attempt's aligned start on.
+-- the standard's. Either way it stands at the byte that the attempt tells, so up to there the bytes were passed over (02, E2).
 -- Demand 2: "Header .. proved against a definition written from ISO/IEC 11172-3 Layer II". Assumes nothing.
 use Prim.Native.Nat.{ℕ, _+_, _-_, _*_, _/_, _%_, _≤_, _<_}
 use mathlib.Core.Path.{_≡_, refl, sym, ap, subst, _∙_}
@@ -16,20 +16,22 @@ use Rattle.ground.specs.Rows.{is-false}
 use Rattle.ground.specs.Tests.{by-test}
 use Rattle.ground.specs.Upto.{and-left, and-right}
 use Rattle.ground.specs.Entries.{every}
-use Rattle.buffer.specs.Bits.{longestStream, farthestBit, bitsValue, otherAt, pairAt, pastOf, stopOf}
-use Rattle.buffer.specs.Calls.{readerAt, fieldOf}
-use Rattle.buffer.specs.Laws.{split, bits-below, in-byte, byte-at, field-whole, field-moves, field-read}
-use Rattle.buffer.specs.PairLaws.{pair-found}
+use Rattle.buffer.specs.Bits.{longestStream, farthestBit, bitsValue, otherAt, pairAt, pastOf}
+use Rattle.buffer.specs.Calls.{readerAt, byteAt, fieldOf}
+use Rattle.buffer.specs.Laws.{split, bits-below, in-byte, byte-at, field-whole, field-moves}
+use Rattle.buffer.specs.PairLaws.{pair-ones}
+use Rattle.buffer.specs.declared.BytePos.{BytePos}
 use Rattle.buffer.specs.declared.Reader.{Reader}
 use Rattle.buffer.specs.declared.Field.{Field}
 use Rattle.header.specs.Header.{headerOf}
 use Rattle.header.specs.Accepted.{SameFormat}
 use Rattle.header.specs.Attempts.{elevenBits, stop, Synced, in-place, searched, layer, bitrate, samplerate, mode, flags, checked, afterCheck, formatBy, dataSize as sizeBy, BitrateGiven, Attempts, one, two, three, four, five, six, zero as accepted, attempt-table}
+use Rattle.header.specs.Passed.{Met, sync-is-ff}
 use Rattle.header.specs.declared.Attempt.{Attempt}
 use Rattle.header.specs.declared.Format.{Format}
 use Rattle.header.specs.declared.Header.the-variants.{Accepted}
 use Rattle.standard.specs.Header.{HeaderFields, syncword, id, bitrateIndex, samplingFrequency, modeBits, dataSize, dataBit}
-use Rattle.alike.specs.Fields.{Says, afterSync, bitsAt, field, version-is, layer-is, bitrate-is, samplerate-is, says, next-is, eleven-ones, version-3, twelve-ones, pair-ones}
+use Rattle.alike.specs.Fields.{Says, afterSync, bitsAt, field, version-is, layer-is, bitrate-is, samplerate-is, says, next-is, eleven-ones, version-3, twelve-ones}
 
 -- ---- a header of the standard is accepted
 
@@ -52,7 +54,7 @@ pub record AcceptedAt (s : List ℕ) (r : Reader) (byte : ℕ) (known : Format) 
   pub format : Format
   pub reading : format .reading ≡ known .reading
   pub says : Says s byte format (dataSize s byte)
-  pub is : headerOf s r known ≡ record { header = Accepted format (dataSize s byte); next = readerAt (dataBit s byte) }
+  pub is : headerOf s r known ≡ record { header = Accepted format (dataSize s byte); sync = byteAt byte; next = readerAt (dataBit s byte) }
 
 module _ (s : List ℕ) (bytes : (j : ℕ) → getD s j 0 < 256) (r : Reader) (byte : ℕ) (reaches : Reaches s r byte) (short : length s ≤ longestStream)
     (room : 8 * byte + 48 ≤ 8 * length s) (fields : HeaderFields s byte) where
@@ -97,13 +99,16 @@ module _ (s : List ℕ) (bytes : (j : ℕ) → getD s j 0 < 256) (r : Reader) (b
   eleven-value = ap (λ (z : Field). z .value) eleven-is ∙ ap (λ (k : ℕ). bitsValue s k 11) (omega arith)
 
   -- in place, or behind a search that begins one byte on
-  found : Synced s r (afterSync byte)
+  found : Synced s r (byteAt byte) (afterSync byte)
   found = go (ℕ-discrete tried byte)
     where
-      go : Dec (tried ≡ byte) → Synced s r (afterSync byte)
+      -- at that byte, and read on from there
+      there : {b : BytePos} {q : Reader} → Synced s r b q → b .0 ≡ byte → q ≡ afterSync byte → Synced s r (byteAt byte) (afterSync byte)
+      there {b} {q} y e f = subst (λ (k : ℕ). Synced s r (byteAt k) (afterSync byte)) e (subst (Synced s r b) f y)
+
+      go : Dec (tried ≡ byte) → Synced s r (byteAt byte) (afterSync byte)
       go (yes e) =
-          subst (Synced s r) (ap (λ (z : Field). z .next) eleven-is ∙ ap afterSync e)
-          (in-place (eleven-value ∙ rw e (eleven-ones s byte short fields)))
+          there (in-place (eleven-value ∙ rw e (eleven-ones s byte short fields))) e (ap (λ (z : Field). z .next) eleven-is ∙ ap afterSync e)
       go (no n) =
           let w = first-within (otherAt s 0) (length s - start) start in
           let before : tried < byte = omega (arith, tried-before) in
@@ -114,8 +119,7 @@ module _ (s : List ℕ) (bytes : (j : ℕ) → getD s j 0 < 256) (r : Reader) (b
           rw from
           (first-is (pairAt s) (length s - 1 - (tried + 1)) (tried + 1) byte (omega arith) (omega arith) pair
           (λ j l m. is-false _ (λ t. reaches .none-before j (omega arith) m (pair-ones s j t)))) in
-          subst (Synced s r) (ap readerAt (omega arith))
-          (searched (λ o. reaches .none-before tried (w .0) before (sym eleven-value ∙ o)) (omega arith))
+          there (searched (λ o. reaches .none-before tried (w .0) before (sym eleven-value ∙ o)) (omega arith)) stops (ap readerAt (omega arith))
 
   given : BitrateGiven s (afterSync byte)
   given =
@@ -148,40 +152,12 @@ module _ (s : List ℕ) (bytes : (j : ℕ) → getD s j 0 < 256) (r : Reader) (b
         says = subst (Says s byte f) (w .size) w;
         is =
             sym (row .0)
-            ∙ ap {B = Attempt} (λ (n : ℕ). record { header = Accepted f n; next = afterCheck s (afterSync byte) }) (w .size)
-            ∙ ap {B = Attempt} (λ (next : Reader). record { header = Accepted f (dataSize s byte); next = next }) (next-is s byte short thirty room);
+            ∙ ap {B = Attempt} (λ (n : ℕ). record { header = Accepted f n; sync = byteAt byte; next = afterCheck s (afterSync byte) }) (w .size)
+            ∙ ap {B = Attempt} (λ (next : Reader). record { header = Accepted f (dataSize s byte); sync = byteAt byte; next = next })
+            (next-is s byte short thirty room);
       }
 
 -- ---- an accepted header is the standard's
-
--- where the attempt's sync was found: in place, behind zero bytes, or behind the search
-record SyncAt (s : List ℕ) (r after : Reader) : Type 0 where
-  byte : ℕ
-  from : (r .at .0 + 7) / 8 ≤ byte
-  is : after ≡ afterSync byte
-  ones : bitsValue s (byte * 8) 11 ≡ 2047
-
-sync-at : (s : List ℕ) (r : Reader) → length s ≤ longestStream → {after : Reader} → Synced s r after → SyncAt s r after
-sync-at s r short (in-place e) =
-    let byte = pastOf s 0 ((r .at .0 + 7) / 8) in
-    let w = first-within (otherAt s 0) (length s - (r .at .0 + 7) / 8) ((r .at .0 + 7) / 8) in
-    let there = field-read s (readerAt (byte * 8)) 11 (omega arith) (λ z. omega arith) in
-    let none : byte * 8 ≡ byte * 8 + 0 = omega arith in
-    let whole : elevenBits s r ≡ bitsAt s byte 0 11 =
-    ap (λ (k : ℕ). fieldOf s (readerAt k) 11) none ∙ field s byte short 0 11 (omega (arith, there .1)) (omega arith) in
-    record {
-      byte = byte;
-      from = w .0;
-      is = ap (λ (z : Field). z .next) whole;
-      ones = ap (λ (k : ℕ). bitsValue s k 11) none ∙ sym (ap (λ (z : Field). z .value) whole) ∙ e;
-    }
-sync-at s r short (searched o l) =
-    let from = (r .at .0 + 7) / 8 in
-    let w = first-within (otherAt s 0) (length s - from) from in
-    let m = field-moves s (readerAt (pastOf s 0 from * 8)) 11 in
-    let i = elevenBits s r .next .at .0 / 8 in
-    let v = first-within (pairAt s) (length s - 1 - i) i in
-    record { byte = stopOf s i; from = omega arith; is = ap readerAt (omega arith); ones = pair-ones s (stopOf s i) (pair-found s i l) }
 
 -- fields one behind the other, each of 16 bits or fewer: where 16 bits are left behind them, all of them were there
 module _ (s : List ℕ) (short : length s ≤ longestStream) where
@@ -220,8 +196,7 @@ module _ (s : List ℕ) (short : length s ≤ longestStream) where
 
 -- a header of the standard, where its 32 bits are there; the audio data begin where the standard says, where 16 bits more are there;
 -- and all of these are, where 16 bits are left when the header is read
-pub record StandardsHeader (s : List ℕ) (r : Reader) (f : Format) (n : ℕ) (next : Reader) : Type 0 where
-  pub byte : ℕ
+pub record StandardsHeader (s : List ℕ) (r : Reader) (f : Format) (n : ℕ) (byte : ℕ) (next : Reader) : Type 0 where
   pub from : (r .at .0 + 7) / 8 ≤ byte
   pub fields : 8 * byte + 32 ≤ 8 * length s → HeaderFields s byte
   pub says : 8 * byte + 32 ≤ 8 * length s → Says s byte f n
@@ -256,37 +231,38 @@ module _ (s : List ℕ) (r : Reader) (short : length s ≤ longestStream) (known
         few : (n : ℕ) → n < 4 → (n ≡ 3 → ⊥) → n ≤ 2
         few n l h = omega arith
 
-  accepted-at : {after : Reader} → BitrateGiven s after → (samplerate s after .value ≡ 3 → ⊥) → SyncAt s r after
-      → StandardsHeader s r (formatBy s after (known .reading)) (sizeBy s after) (afterCheck s after)
-  accepted-at u f a =
-      let byte = a .byte in
+  accepted-at : {b : BytePos} {after : Reader} → BitrateGiven s after → (samplerate s after .value ≡ 3 → ⊥) → Met s r b after
+      → StandardsHeader s r (formatBy s after (known .reading)) (sizeBy s after) (b .0) (afterCheck s after)
+  accepted-at {b} u f met =
+      let byte = b .0 in
       subst
       (λ (p : Reader). BitrateGiven s p → (samplerate s p .value ≡ 3 → ⊥)
-      → StandardsHeader s r (formatBy s p (known .reading)) (sizeBy s p) (afterCheck s p))
-      (sym (a .is))
+      → StandardsHeader s r (formatBy s p (known .reading)) (sizeBy s p) byte (afterCheck s p))
+      (ap readerAt (sym (met .behind)))
       (λ v g. record {
-        byte = byte;
-        from = a .from;
-        fields = λ room. fields-hold byte (a .ones) room v g;
+        from = met .forth;
+        fields = λ room. fields-hold byte (met .ones) room v g;
         says = λ room. says s byte short room (known .reading);
         data-bit = λ room. next-is s byte short (omega arith) room;
         whole = whole-header s short byte;
       })
       u f
 
-  by-row : {n : ℕ} {x : Attempt} → Attempts s r known n x → {f : Format} {size : ℕ} → x .header ≡ Accepted f size → StandardsHeader s r f size (x .next)
-  by-row (one _) e = absurd (let z : _≡_ {A = ℕ} 0 1 = cc in omega arith)
-  by-row (two _ _ _) e = absurd (let z : _≡_ {A = ℕ} 0 1 = cc in omega arith)
-  by-row (three _ _ _) e = absurd (let z : _≡_ {A = ℕ} 0 1 = cc in omega arith)
-  by-row (four _ _ _ _) e = absurd (let z : _≡_ {A = ℕ} 0 1 = cc in omega arith)
-  by-row (five _ _ _ _) e = absurd (let z : _≡_ {A = ℕ} 0 1 = cc in omega arith)
-  by-row (six _ _ _ _ _ _) e = absurd (let z : _≡_ {A = ℕ} 0 1 = cc in omega arith)
-  by-row (accepted {q = after} room y u g same) {f} {size} e =
-      let a : formatBy s after (known .reading) ≡ f = cc in
-      let b : sizeBy s after ≡ size = cc in
-      subst (λ (h : Format). StandardsHeader s r h size (afterCheck s after)) a
-      (subst (λ (n : ℕ). StandardsHeader s r (formatBy s after (known .reading)) n (afterCheck s after)) b (accepted-at u g (sync-at s r short y)))
+  by-row : {n : ℕ} {x : Attempt} → r .at .0 ≤ farthestBit → Attempts s r known n x → {f : Format} {size : ℕ} → x .header ≡ Accepted f size
+      → StandardsHeader s r f size (x .sync .0) (x .next)
+  by-row near (one _) e = absurd (let z : _≡_ {A = ℕ} 0 1 = cc in omega arith)
+  by-row near (two _ _ _) e = absurd (let z : _≡_ {A = ℕ} 0 1 = cc in omega arith)
+  by-row near (three _ _ _) e = absurd (let z : _≡_ {A = ℕ} 0 1 = cc in omega arith)
+  by-row near (four _ _ _ _) e = absurd (let z : _≡_ {A = ℕ} 0 1 = cc in omega arith)
+  by-row near (five _ _ _ _) e = absurd (let z : _≡_ {A = ℕ} 0 1 = cc in omega arith)
+  by-row near (six _ _ _ _ _ _) e = absurd (let z : _≡_ {A = ℕ} 0 1 = cc in omega arith)
+  by-row near (accepted {b = b} {q = after} room y u g same) {f} {size} e =
+      let same-format : formatBy s after (known .reading) ≡ f = cc in
+      let same-size : sizeBy s after ≡ size = cc in
+      subst (λ (h : Format). StandardsHeader s r h size (b .0) (afterCheck s after)) same-format
+      (subst (λ (n : ℕ). StandardsHeader s r (formatBy s after (known .reading)) n (b .0) (afterCheck s after)) same-size
+      (accepted-at u g (sync-is-ff s r short near room y)))
 
   pub an-accepted-header : r .at .0 ≤ farthestBit → {f : Format} {size : ℕ} → headerOf s r known .header ≡ Accepted f size
-      → StandardsHeader s r f size (headerOf s r known .next)
-  an-accepted-header near = by-row (attempt-table s r short near known .holds)
+      → StandardsHeader s r f size (headerOf s r known .sync .0) (headerOf s r known .next)
+  an-accepted-header near = by-row near (attempt-table s r short near known .holds)

@@ -12,7 +12,7 @@ use lib.ListN.{getD, replicate}
 use Rattle.ground.specs.First.{firstFrom}
 use Rattle.ground.specs.Upto.{upto}
 use Rattle.buffer.specs.Bits.{bitAt, bitsValue}
-use Rattle.buffer.specs.Calls.{readerAt, left, readOf, fieldOf, hasOf, skipBytesOf}
+use Rattle.buffer.specs.Calls.{readerAt, byteAt, left, readOf, fieldOf, hasOf, skipBytesOf}
 use Rattle.grammar.specs.Reads.{Reads, _>>=_, run, called}
 use Rattle.tables.specs.Standard.{B2c, rowsOf, rowOf, stepsOf, sblimit, serves, chosen, limitOf, classes, quantisationOf, levelsOf, codeBitsOf, groupedOf}
 use Rattle.tables.specs.Source.{sourceRowOf, widthOf, quantiserOf}
@@ -138,7 +138,7 @@ first s = headerOf s (readerAt 0) unknown
 
 -- F1: whatever the check word says, the header is accepted
 pub check-word-unread : (a b : ℕ)
-    → first (0xFF ∷ 0xFC ∷ 0x10 ∷ 0xC0 ∷ a ∷ b ∷ replicate 98 0) ≡ record { header = Accepted monoFormat 98; next = readerAt 48 }
+    → first (0xFF ∷ 0xFC ∷ 0x10 ∷ 0xC0 ∷ a ∷ b ∷ replicate 98 0) ≡ record { header = Accepted monoFormat 98; sync = byteAt 0; next = readerAt 48 }
 unfolding headerOf startOf syncOf hasOf skipBytesOf fieldOf readOf bitsValue bitAt firstFrom run _>>=_ fieldsOf identOf ratesOf restOf modeOf boundOf checkOf
     sizeOf
 check-word-unread a b = refl
@@ -175,7 +175,7 @@ abbrev ancillary : List ℕ
 ancillary = mono32 (0 ∷ 0 ∷ 0 ∷ 0 ∷ mono32 (replicate 100 0))
 
 pub inside-the-frame : (run monoFrame ancillary (readerAt 32) .next ≡ readerAt 58) × (frameSize ancillary 0 ≡ 104)
-    × (headerOf ancillary (readerAt 58) monoFormat ≡ record { header = Accepted monoFormat 100; next = readerAt 96 })
+    × (headerOf ancillary (readerAt 58) monoFormat ≡ record { header = Accepted monoFormat 100; sync = byteAt 8; next = readerAt 96 })
 unfolding headerOf startOf syncOf hasOf skipBytesOf fieldOf readOf bitsValue bitAt firstFrom run _>>=_ fieldsOf identOf ratesOf restOf modeOf boundOf checkOf
     sizeOf frameOf sideOf bands pairOf allocationOf allocationBandOf channelsOf selectorOf factorsOf placeOf copied sampleBandOf granuleOf granulesOf
     tableOf limitOf chosen serves sblimit rowsOf sourceRowOf widthOf quantiserOf
@@ -201,7 +201,7 @@ almost-a-sync = tt
 
 -- .. and a header of the standard at the second of two FF is lost: the next attempt starts behind its first byte
 pub lost-header : HeaderFields (0xFF ∷ mono32 (replicate 100 0)) 1
-    × (first (0xFF ∷ mono32 (replicate 100 0)) ≡ record { header = Refused 3; next = readerAt 16 })
+    × (first (0xFF ∷ mono32 (replicate 100 0)) ≡ record { header = Refused 3; sync = byteAt 0; next = readerAt 16 })
 unfolding headerOf startOf syncOf hasOf skipBytesOf fieldOf readOf bitsValue bitAt firstFrom run _>>=_ fieldsOf identOf ratesOf
 lost-header = (is-header (0xFF ∷ mono32 (replicate 100 0)) 1 tt, refl)
 
@@ -209,7 +209,7 @@ lost-header = (is-header (0xFF ∷ mono32 (replicate 100 0)) 1 tt, refl)
 abbrev cutShort : List ℕ
 cutShort = mono32 (replicate 99 0)
 
-pub cut-short : (first cutShort ≡ record { header = Accepted monoFormat 100; next = readerAt 32 }) × (left cutShort (readerAt 32) ≡ 792)
+pub cut-short : (first cutShort ≡ record { header = Accepted monoFormat 100; sync = byteAt 0; next = readerAt 32 }) × (left cutShort (readerAt 32) ≡ 792)
     × (called monoFrame cutShort (readerAt 32) ≡ 26)
 unfolding headerOf startOf syncOf hasOf skipBytesOf fieldOf readOf bitsValue bitAt firstFrom run called _>>=_ fieldsOf identOf ratesOf restOf modeOf boundOf
     checkOf sizeOf frameOf sideOf bands pairOf allocationOf allocationBandOf channelsOf selectorOf factorsOf placeOf copied sampleBandOf granuleOf
@@ -231,7 +231,7 @@ unfolding headerOf startOf syncOf hasOf skipBytesOf fieldOf readOf bitsValue bit
 unconfirmed = (refl, refl, is-header falseStart 108 tt, refl)
 
 -- F10: a header cut behind its third byte is accepted: what is missing reads as 0, which is stereo
-pub cut-header : first (0 ∷ 0 ∷ 0 ∷ 0xFF ∷ 0xFD ∷ 0x10 ∷ []) ≡ record { header = Accepted stereo 100; next = readerAt 48 }
+pub cut-header : first (0 ∷ 0 ∷ 0 ∷ 0xFF ∷ 0xFD ∷ 0x10 ∷ []) ≡ record { header = Accepted stereo 100; sync = byteAt 3; next = readerAt 48 }
 unfolding headerOf startOf syncOf hasOf skipBytesOf fieldOf readOf bitsValue bitAt firstFrom run _>>=_ fieldsOf identOf ratesOf restOf modeOf boundOf checkOf
     sizeOf
 cut-header = refl

@@ -1,5 +1,6 @@
 -- The three public calls: for each the answer with the new state, the memory and the output, whatever the input.
--- From 01, "Numbers a call can give" and "The tag's share of the code", and from 02, E7.
+-- From 01, "Numbers a call can give" and "The tag's share of the code", and from 02, E7 and E2: "Each call that may seek a header hands
+-- the number on", which is how many bytes were passed over.
 use Prim.Native.Nat.{ℕ, _-_}
 use mathlib.Core.Bool.{cond, false}
 use mathlib.Core.List.{List, _++_}
@@ -41,15 +42,16 @@ unfoldable pub alignedOf : List ℕ → Reader → Reader
 alignedOf s r = byMoved r (alignOf s r)
 
 -- the bits used are "how far the position moves .. until the final alignment, which is not counted"
-unfoldable pub afterOf : List ℕ → Audio → Reader → ℕ → Decoded
-afterOf s a end ring =
+unfoldable pub afterOf : List ℕ → ℕ → Audio → Reader → ℕ → Decoded
+afterOf s skipped a end ring =
     record {
       answer = Frame (a .time) (end .at .0 - a .reader .at .0);
       state = framedTo (alignedOf s end) (cutFormat (a .format)) ring a;
+      skipped = skipped;
     }
 
-unfoldable pub framedOf : List ℕ → Audio → Decoded
-framedOf s a = afterOf s a (granulesAt s (a .reader) (a .format) .next) (positionAfter (a .ring) 36)
+unfoldable pub framedOf : List ℕ → ℕ → Audio → Decoded
+framedOf s skipped a = afterOf s skipped a (granulesAt s (a .reader) (a .format) .next) (positionAfter (a .ring) 36)
 
 unfoldable pub framedMemory : List ℕ → Audio → List Float → List Float
 framedMemory s a memory = frameMemory (granulesAt s (a .reader) (a .format) .value) (a .ring) memory
@@ -59,9 +61,9 @@ framedOutput s a memory output = frameOutput (granulesAt s (a .reader) (a .forma
 
 -- ---- decode: a frame, or a number, which leaves memory and output as they were
 
-abbrev pub answering : List ℕ → Heading → Audio → Decoded
-answering s Known a = framedOf s a
-answering s (Refused n) a = record { answer = AnswerRefused n; state = a }
+abbrev pub answering : List ℕ → ℕ → Heading → Audio → Decoded
+answering s skipped Known a = framedOf s skipped a
+answering s skipped (Refused n) a = record { answer = AnswerRefused n; state = a; skipped = skipped }
 
 abbrev pub remembering : List ℕ → List Float → Heading → Audio → List Float
 remembering s memory Known a = framedMemory s a memory
@@ -73,7 +75,7 @@ sounding s memory output (Refused n) a = output
 
 unfoldable pub decodeOf : List ℕ → List Float → List Float → Audio → Decoded
 decodeOf s memory output a =
-    let r = readyOf s (length memory) (length output) a in answering s (r .answer) (r .state)
+    let r = readyOf s (length memory) (length output) a in answering s (r .skipped) (r .answer) (r .state)
 
 unfoldable pub decodeMemory : List ℕ → List Float → List Float → Audio → List Float
 decodeMemory s memory output a =
@@ -107,7 +109,7 @@ saying (Refused n) f = ReplyRefused n
 
 -- and the state goes with it
 abbrev pub replying : Asked → Replied
-replying x = record { answer = saying (x .answer) (x .state .format); state = x .state }
+replying x = record { answer = saying (x .answer) (x .state .format); state = x .state; skipped = x .skipped }
 
 -- the position has moved if it was refused, and a header that was accepted is pending
 unfoldable pub formatOf : List ℕ → Audio → Replied

@@ -24,10 +24,11 @@ use Rattle.state.specs.State.{fresh, inRange}
 use Rattle.state.specs.StateLaws.{Ranged}
 use Rattle.state.specs.declared.Audio.{Audio}
 use Rattle.verdict.specs.Verdict.{asked, attemptOf, unlessAtOnce, readyOf, knownOf}
-use Rattle.verdict.specs.VerdictLaws.{Verdict, at-once, no-header, cut-off, whole, verdict-holds, heads-kept, by-asking, known-ranged, refuses-at-once, asks-on}
+use Rattle.verdict.specs.VerdictLaws.{Verdict, at-once, no-header, cut-off, whole, verdict-holds, heads-kept, verdict-leaves, by-asking, known-ranged, few-passed, refuses-at-once, asks-on}
+use Rattle.verdict.specs.declared.Heading.{Heading}
 use Rattle.verdict.specs.declared.Heading.the-variants.{Known, Refused}
 use Rattle.verdict.specs.declared.Asked.{Asked}
-use Rattle.audio.specs.Calls.{blank, noRoomOf, openOf, openMemory, saying, formatOf, afterOf, framedOf, framedMemory, framedOutput, decodeOf, decodeMemory, decodeOutput}
+use Rattle.audio.specs.Calls.{blank, noRoomOf, openOf, openMemory, answering, saying, formatOf, afterOf, framedOf, framedMemory, framedOutput, decodeOf, decodeMemory, decodeOutput}
 use Rattle.audio.specs.declared.Answer.the-variants.{Refused as AnswerRefused}
 use Rattle.audio.specs.declared.Decoded.{Decoded}
 use Rattle.audio.specs.declared.Reply.{Reply}
@@ -92,8 +93,8 @@ by-room s memory P eight nine none =
     (λ l. by-test P (ltb memory memoryLength) _ _ (λ m. nine (ltb-false _ _ l) (ltb-true _ _ m)) (λ m. none (ltb-false _ _ l) (ltb-false _ _ m)))
 
 pub by-opening : (c : Reading) (s : List ℕ) (memory : List Float) (Q : Asked → Type 0)
-    → (longestStream < length s → Q (asked (Refused 8) (fresh c)))
-    → (length s ≤ longestStream → length memory < memoryLength → Q (asked (Refused 9) (fresh c)))
+    → (longestStream < length s → Q (asked 0 (Refused 8) (fresh c)))
+    → (length s ≤ longestStream → length memory < memoryLength → Q (asked 0 (Refused 9) (fresh c)))
     → (length s ≤ longestStream → memoryLength ≤ length memory → Q (attemptOf s (fresh c)))
     → Q (openOf c s memory)
 unfolding openOf
@@ -112,13 +113,34 @@ pub question-leaves : (s : List ℕ) (a : Audio) (P : Audio → Type 0) → P a
 unfolding formatOf
 question-leaves s a P same sought = by-asking s a (λ (x : Asked). P (x .state)) (λ _. same) (λ _ _. same) (λ _ _ _. same) sought
 
+-- ---- no more is passed over than the stream has
+
+pub open-passes-few : (c : Reading) (s : List ℕ) (memory : List Float) → openOf c s memory .skipped ≤ length s
+open-passes-few c s memory =
+    by-opening c s memory (λ (x : Asked). x .skipped ≤ length s) (λ _. omega arith) (λ _ _. omega arith) (λ _ _. few-passed s (fresh c))
+
+-- a call hands on what the verdict passed over
+pub decode-skipped : (s : List ℕ) (memory output : List Float) (a : Audio)
+    → decodeOf s memory output a .skipped ≡ readyOf s (length memory) (length output) a .skipped
+unfolding decodeOf framedOf afterOf
+decode-skipped s memory output a = by (readyOf s (length memory) (length output) a .answer)
+  where
+    by : (h : Heading) → let r = readyOf s (length memory) (length output) a in answering s (r .skipped) h (r .state) .skipped ≡ r .skipped
+    by Known = refl
+    by (Refused n) = refl
+
+pub decode-passes-few : (s : List ℕ) (memory output : List Float) (a : Audio) → decodeOf s memory output a .skipped ≤ length s
+decode-passes-few s memory output a =
+    rw (decode-skipped s memory output a)
+    (verdict-leaves (λ k _. k ≤ length s) (omega arith) (few-passed s a) (verdict-holds s (length memory) (length output) a))
+
 -- ---- the calls, put together from their parts: laws over plain variables
 
 module _ (reading : Reading) (s : List ℕ) (memory : List Float) (a : Audio) (is : a ≡ fresh reading) (n : ℕ) (room : n ≡ noRoomOf s (length memory)) where
-  pub no-room : (n ≡ 0 → ⊥) → (asked (Refused n) a ≡ openOf reading s memory) × (memory ≡ openMemory s memory)
+  pub no-room : (n ≡ 0 → ⊥) → (asked 0 (Refused n) a ≡ openOf reading s memory) × (memory ≡ openMemory s memory)
   unfolding openOf openMemory
   no-room some = (
-    ap (asked (Refused n)) is ∙ refuses-at-once _ n room (fresh reading) (attemptOf s (fresh reading)) some,
+    ap (asked 0 (Refused n)) is ∙ refuses-at-once _ n room (fresh reading) (attemptOf s (fresh reading)) some,
     ap (λ t. cond t (blank ++ drop memoryLength memory) memory) (sym (ne-eqb n 0 some))
         ∙ ap (λ k. cond (eqb k 0) (blank ++ drop memoryLength memory) memory) room,
   )
@@ -143,11 +165,11 @@ ended s a end r e =
     let m = run-moves (codesIn (a .format)) s (a .reader) in
     record { ready = r; forth = rw e (m .0); inside = rw e (omega arith) }
 
-module _ (s : List ℕ) (a : Audio) (end : Reader) (ring : ℕ) (is : end ≡ granulesAt s (a .reader) (a .format) .next)
+module _ (s : List ℕ) (skipped : ℕ) (a : Audio) (end : Reader) (ring : ℕ) (is : end ≡ granulesAt s (a .reader) (a .format) .next)
     (at : ring ≡ positionAfter (a .ring) 36) where
-  pub frames : (x : Decoded) → x ≡ afterOf s a end ring → x ≡ framedOf s a
+  pub frames : (x : Decoded) → x ≡ afterOf s skipped a end ring → x ≡ framedOf s skipped a
   unfolding framedOf
-  frames x e = e ∙ ap (λ z. afterOf s a z ring) is ∙ ap (afterOf s a _) at
+  frames x e = e ∙ ap (λ z. afterOf s skipped a z ring) is ∙ ap (afterOf s skipped a _) at
 
 module _ (s : List ℕ) (a : Audio) (h : Asked) (is : h ≡ knownOf s a) where
   -- the tables have a row for the format that is told
@@ -156,19 +178,19 @@ module _ (s : List ℕ) (a : Audio) (h : Asked) (is : h ≡ knownOf s a) where
       let r = known-ranged s a (sym (ap (λ (x : Asked). x .answer) is) ∙ k) .0 in
       rw is (omega arith, omega arith)
 
-  pub tells : (t : Reply) → t ≡ saying (h .answer) (h .state .format) → record { answer = t; state = h .state } ≡ formatOf s a
+  pub tells : (t : Reply) → t ≡ saying (h .answer) (h .state .format) → record { answer = t; state = h .state; skipped = h .skipped } ≡ formatOf s a
   unfolding formatOf
   tells t e = rw (← is, e)
 
 module _ (s : List ℕ) (memory output : List Float) (a : Audio) (r : Asked) (is : r ≡ readyOf s (length memory) (length output) a) where
-  pub decodes : r .answer ≡ Known → (x : Decoded) (m o : List Float) → x ≡ framedOf s (r .state) → m ≡ framedMemory s (r .state) memory
+  pub decodes : r .answer ≡ Known → (x : Decoded) (m o : List Float) → x ≡ framedOf s (r .skipped) (r .state) → m ≡ framedMemory s (r .state) memory
       → o ≡ framedOutput s (r .state) memory output
       → (x ≡ decodeOf s memory output a) × ((m ≡ decodeMemory s memory output a) × (o ≡ decodeOutput s memory output a))
   unfolding decodeOf decodeMemory decodeOutput
   decodes k x m o e f g = (rw (← is, k) e, (rw (← is, k) f, rw (← is, k) g))
 
   pub refuses : (n : ℕ) → r .answer ≡ Refused n
-      → (record { answer = AnswerRefused n; state = r .state } ≡ decodeOf s memory output a)
+      → (record { answer = AnswerRefused n; state = r .state; skipped = r .skipped } ≡ decodeOf s memory output a)
       × ((memory ≡ decodeMemory s memory output a) × (output ≡ decodeOutput s memory output a))
   unfolding decodeOf decodeMemory decodeOutput
   refuses n k = (rw (← is, k), (rw (← is, k), rw (← is, k)))

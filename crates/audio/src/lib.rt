@@ -24,9 +24,11 @@ pub enum Reply {
     Refused(u32),
 }
 
+// 02, E2: `skipped` is how many bytes the call passed over as it sought a header, 0 where it sought none.
 pub struct Replied {
     pub answer: Reply,
     pub state: Audio,
+    pub skipped: usize,
 }
 
 // A frame with its start time in seconds and the bits it used, or a number.
@@ -38,6 +40,7 @@ pub enum Answer {
 pub struct Decoded {
     pub answer: Answer,
     pub state: Audio,
+    pub skipped: usize,
 }
 
 // 1 and 7 end a stream. After any other number a later call may give a frame.
@@ -57,10 +60,10 @@ fn aligned(stream: &[u8], reader: Reader) -> Reader
     }
 }
 
-// The answer and the state after a frame whose reading ended at `end`.
-fn after(a: Audio, stream: &[u8], end: Reader, ring: usize) -> Decoded
+// The answer and the state after a frame whose reading ended at `end`; what was passed over before its header is handed on.
+fn after(a: Audio, stream: &[u8], end: Reader, ring: usize, skipped: usize) -> Decoded
     requires { ⌜ Ended (now stream) a end ⌝ }
-    ensures { λ x. ⌜ x ≡ afterOf (now (stream .entry)) a end ring ⌝ }
+    ensures { λ x. ⌜ x ≡ afterOf (now (stream .entry)) skipped a end ring ⌝ }
 {
     let old = a.format;
     let begin = a.reader;
@@ -81,13 +84,20 @@ fn after(a: Audio, stream: &[u8], end: Reader, ring: usize) -> Decoded
     Decoded {
         answer: Answer::Frame { time: a.time, bits },
         state,
+        skipped,
     }
 }
 
 // The frame whose header is pending and whose data are there.
-fn framed(a: Audio, stream: &[u8], memory: &mut [f32], output: &mut [f32]) -> Decoded
+fn framed(
+    a: Audio,
+    stream: &[u8],
+    memory: &mut [f32],
+    output: &mut [f32],
+    skipped: usize,
+) -> Decoded
     requires { ⌜ Ready (now stream) a × (memoryLength ≤ length (now memory)) × (outputLength ≤ length (now output)) ⌝ }
-    ensures { λ x. ⌜ x ≡ framedOf (now (stream .entry)) a ⌝ }
+    ensures { λ x. ⌜ x ≡ framedOf (now (stream .entry)) skipped a ⌝ }
     ensures { λ _. ⌜ now (memory .exit) ≡ framedMemory (now (stream .entry)) a (now (memory .entry)) ⌝ }
     ensures { λ _. ⌜ now (output .exit) ≡ framedOutput (now (stream .entry)) a (now (memory .entry)) (now (output .entry)) ⌝ }
 {
@@ -95,7 +105,7 @@ fn framed(a: Audio, stream: &[u8], memory: &mut [f32], output: &mut [f32]) -> De
     let begin = a.reader;
     let played = frame::decode_frame(stream, begin, format, a.ring, memory, output);
     let end = played.end;
-    after(a, stream, end, played.ring)
+    after(a, stream, end, played.ring, skipped)
 }
 
 fn clear(memory: &mut [f32])
@@ -133,6 +143,7 @@ pub fn new(stream: &[u8], memory: &mut [f32], reading: Reading) -> Asked
         return Asked {
             answer: Heading::Refused(number),
             state,
+            skipped: 0,
         };
     }
     clear(&mut memory[0..MEMORY]);
@@ -166,6 +177,7 @@ pub fn format(a: Audio, stream: &[u8]) -> Replied
     Replied {
         answer: say(heading, format),
         state,
+        skipped: h.skipped,
     }
 }
 
@@ -179,10 +191,11 @@ pub fn decode(a: Audio, stream: &[u8], memory: &mut [f32], output: &mut [f32]) -
     let state = r.state;
     let answer = r.answer;
     match answer {
-        Heading::Known => framed(state, stream, memory, output),
+        Heading::Known => framed(state, stream, memory, output, r.skipped),
         Heading::Refused(number) => Decoded {
             answer: Answer::Refused(number),
             state,
+            skipped: r.skipped,
         },
     }
 }

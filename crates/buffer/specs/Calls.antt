@@ -24,9 +24,12 @@ use Rattle.buffer.specs.declared.Told.the-variants.{At, Refused as ToldR
 use Rattle.buffer.specs.declared.Sync.{Sync}
 use Rattle.buffer.specs.declared.Sync.the-variants.{Found, Missing, Refused as SyncRefused}
 
--- the reader at bit n
+-- the reader at bit n, and byte n
 abbrev pub readerAt : ℕ → Reader
 readerAt n = record { at = record { 0 = n } }
+
+abbrev pub byteAt : ℕ → BytePos
+byteAt n = record { 0 = n }
 
 -- the byte that holds a bit; the first that starts at it or after it; a byte's first bit: only the factor 8 converts
 abbrev pub bytePosOf : BitIndex → BytePos
@@ -89,12 +92,15 @@ skipBytesOf s r v =
     let from = (r .at .0 + 7) / 8 in
     gate s r SkippedRefused (Bytes (pastOf s v from - from) (readerAt (pastOf s v from * 8)))
 
--- from "the byte holding the reading position": three bits into the pair's second byte, or one byte past where it stopped
+-- from "the byte holding the reading position": three bits into the pair's second byte, or one byte past where it stopped. 02, E2: "the
+-- bytes from the first it looks at .. to the FF of the sync, or to the stream's end if there is none; 0 past that end"
 unfoldable pub searchOf : List ℕ → Reader → Sync
 searchOf s r =
-    let stop = stopOf s (r .at .0 / 8) in
+    let from = r .at .0 / 8 in
+    let stop = stopOf s from in
     gate s r SyncRefused
-    (cond (ltb stop (length s - 1)) (Found (readerAt ((stop + 1) * 8 + 3))) (Missing (readerAt ((stop + 1) * 8))))
+    (cond (ltb stop (length s - 1)) (Found (byteAt stop) (stop - from) (readerAt ((stop + 1) * 8 + 3)))
+    (Missing (byteAt (length s)) (length s - from) (readerAt ((stop + 1) * 8))))
 
 -- what a field read gives its callers: the definition, and the bounds that follow from it
 pub record Fielded (s : List ℕ) (r : Reader) (n : ℕ) (f : Field) : Type 0 where

@@ -37,6 +37,6 @@ toldNumber (ToldRefused n) = n
 
 -- a search that finds nothing is answered: the header's layer makes a 2 of it
 abbrev pub syncNumber : Sync → ℕ
-syncNumber (Found r) = 0
-syncNumber (Missing r) = 0
+syncNumber (Found sync skipped r) = 0
+syncNumber (Missing sync skipped r) = 0
 syncNumber (SyncRefused n) = n

@@ -78,9 +78,19 @@ pub enum Told {
     Refused(u32),
 }
 
+// `sync` is the byte of the FF, or the stream's length where there is none. `skipped` is how many bytes were passed over, from the first
+// that the search looked at up to there.
 pub enum Sync {
-    Found(Reader),
-    Missing(Reader),
+    Found {
+        sync: BytePos,
+        skipped: usize,
+        next: Reader,
+    },
+    Missing {
+        sync: BytePos,
+        skipped: usize,
+        next: Reader,
+    },
     Refused(u32),
 }
 
@@ -172,7 +182,7 @@ fn last_of(s: &[u8]) -> usize
 // The first place at or after `from` where a sync pair starts, or else the larger of `from` and the last byte's place.
 fn first_pair(s: &[u8], from: BytePos) -> BytePos
     ensures is { λ r. ⌜ r .0 ≡ stopOf (now (s .entry)) (from .0) ⌝ }
-    ensures within { λ r. ⌜ r .0 ≤ from .0 + length (now (s .entry)) ⌝ }
+    ensures within { λ r. ⌜ (from .0 ≤ r .0) × (r .0 ≤ from .0 + length (now (s .entry))) ⌝ }
 {
     let last = last_of(s);
     let mut i = from.0;
@@ -186,6 +196,14 @@ fn first_pair(s: &[u8], from: BytePos) -> BytePos
         i += 1;
     };
     BytePos(found)
+}
+
+// The bytes from `from` to the stream's end: none past it.
+fn bytes_from(s: &[u8], from: BytePos) -> usize
+    ensures { λ r. ⌜ r ≡ length (now (s .entry)) - from .0 ⌝ }
+{
+    let end = s.len();
+    if from.0 < end { end - from.0 } else { 0 }
 }
 
 // The first place at or after `from` whose byte differs from `v`, or else the larger of `from` and the stream's length.
@@ -352,7 +370,8 @@ impl Reader {
         Skipped::Bytes(to.0 - from.0, Reader { at: next })
     }
 
-    // To three bits into the second byte of the first sync pair, searched from the byte that holds the position.
+    // To three bits into the second byte of the first sync pair, searched from the byte that holds the position. 02, E2: with the bytes
+    // that were passed over.
     pub fn find_frame_sync(self, s: &[u8]) -> Sync
         ensures { λ r. ⌜ r ≡ searchOf (now (s .entry)) self ⌝ }
     {
@@ -368,10 +387,18 @@ impl Reader {
         let after = BytePos(found.0 + 1);
         let next = after.bit();
         if found.0 < last_of(s) {
-            return Sync::Found(Reader {
-                at: BitIndex(next.0 + 3),
-            });
+            return Sync::Found {
+                sync: found,
+                skipped: found.0 - from.0,
+                next: Reader {
+                    at: BitIndex(next.0 + 3),
+                },
+            };
         }
-        Sync::Missing(Reader { at: next })
+        Sync::Missing {
+            sync: BytePos(s.len()),
+            skipped: bytes_from(s, from),
+            next: Reader { at: next },
+        }
     }
 }

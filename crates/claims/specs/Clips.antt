@@ -1,7 +1,7 @@
 -- Two clips of three frames, for the promises on them: one begins with a frame whose last slot knocks, the other with silence, and then both
 -- have two silent frames, each where the standard says that the one before it ends. What the decoder does on them, call by call, is
 -- computed, with any memory and output that are long enough. Assumes nothing.
-use Prim.Native.Nat.{ℕ, _≤_}
+use Prim.Native.Nat.{ℕ, _-_, _/_, _≤_}
 use mathlib.Core.Path.{_≡_, refl, ap, _∙_}
 use mathlib.Core.Bool.{true, false}
 use mathlib.Core.List.{List, [], _∷_, _++_}
@@ -82,15 +82,16 @@ two = framedTo (readerAt 896) mono 512 headed-two
 abbrev pub headed-three : Audio
 headed-three = pends (readerAt 1696) mono 100 two
 
-abbrev pub headings : List Asked
-headings = asked Known headed ∷ asked Known headed-two ∷ asked Known headed-three ∷ []
+-- each with the bytes that were passed over: to the second from where the first frame's reading ended
+abbrev pub headings : ℕ → List Asked
+headings end = asked 0 Known headed ∷ asked (104 - end / 8) Known headed-two ∷ asked 96 Known headed-three ∷ []
 
 -- what is computed of a stream: its headers and that their data are there, the frames, and that the states are in range
 pub record Course (s : List ℕ) (granules : List (List ℤ)) (last end : ℕ) : Type 0 where
   pub short : ltb longestStream (length s) ≡ false
   pub ranged : inRange headed ∷ inRange (one end) ∷ inRange two ∷ [] ≡ true ∷ true ∷ true ∷ []
-  pub found : attemptOf s (fresh plain) ∷ attemptOf s (one end) ∷ attemptOf s two ∷ [] ≡ headings
-  pub enough : enoughOf s headed ∷ enoughOf s headed-two ∷ enoughOf s headed-three ∷ [] ≡ headings
+  pub found : attemptOf s (fresh plain) ∷ attemptOf s (one end) ∷ attemptOf s two ∷ [] ≡ headings end
+  pub enough : enoughOf s 0 headed ∷ enoughOf s (104 - end / 8) headed-two ∷ enoughOf s 96 headed-three ∷ [] ≡ headings end
   pub reads : granulesAt s (readerAt 32) mono ∷ granulesAt s (readerAt 864) mono ∷ [] ≡ ran granules (readerAt last) ∷ ran silence (readerAt 890) ∷ []
   pub aligned : alignedOf s (readerAt last) ∷ alignedOf s (readerAt 890) ∷ [] ≡ readerAt end ∷ readerAt 896 ∷ []
 
@@ -145,57 +146,57 @@ module _ {s : List ℕ} {granules : List (List ℤ)} {last end : ℕ} (course : 
   past-three = decoded past-two s o
 
   -- a call from a known state, and the state that its frame leaves
-  module _ (memory : List Float) (a b : Audio) where
-    stands : memoryLength ≤ length memory → inRange a ≡ true → headedOf s a ≡ asked Known b → enoughOf s b ≡ asked Known b
-        → (c : Audio) → c ≡ a → before (on memory c) ≡ asked Known b
+  module _ (memory : List Float) (k : ℕ) (a b : Audio) where
+    stands : memoryLength ≤ length memory → inRange a ≡ true → headedOf s a ≡ asked k Known b → enoughOf s k b ≡ asked k Known b
+        → (c : Audio) → c ≡ a → before (on memory c) ≡ asked k Known b
     unfolding readyOf atOnceOf
     stands big ranged heading enough c is =
         ap (λ (x : Audio). before (on memory x)) is ∙ simp (course .short, le-ltb _ _ big, le-ltb _ _ room, ranged, heading, enough)
 
-    leaves : (xs : List (List ℤ)) (last end : ℕ) → before (on memory a) ≡ asked Known b → granulesAt s (b .reader) (b .format) ≡ ran xs (readerAt last)
+    leaves : (xs : List (List ℤ)) (last end : ℕ) → before (on memory a) ≡ asked k Known b → granulesAt s (b .reader) (b .format) ≡ ran xs (readerAt last)
         → alignedOf s (readerAt last) ≡ readerAt end
         → outcome (on memory a) .state ≡ framedTo (readerAt end) (cutFormat (b .format)) (positionAfter (b .ring) 36) b
     unfolding framedOf afterOf
     leaves xs last end is reads aligned =
         ap (λ (x : Decoded). x .state) (known-leaves (on memory a) (ap (λ (x : Asked). x .answer) is) .gives)
-        ∙ ap (λ (x : Asked). framedOf s (x .state) .state) is
+        ∙ ap (λ (x : Asked). framedOf s (x .skipped) (x .state) .state) is
         ∙ ap (λ (x : Ran (List (List ℤ))). framedTo (alignedOf s (x .next)) (cutFormat (b .format)) (positionAfter (b .ring) 36) b) reads
         ∙ ap (λ (r : Reader). framedTo r (cutFormat (b .format)) (positionAfter (b .ring) 36) b) aligned
 
   -- entry i of what was computed
   abbrev heading : ℕ → List Asked → Asked
-  heading i xs = getD xs i (asked Known headed)
+  heading i xs = getD xs i (asked 0 Known headed)
 
   pub opened-at : one-call .state ≡ headed
   unfolding openOf noRoomOf
   opened-at = simp (course .short, le-ltb _ _ long) (ap (λ xs. heading 0 xs .state) (course .found))
 
-  pub before-first : before one-call ≡ asked Known headed
+  pub before-first : before one-call ≡ asked 0 Known headed
   unfolding headedOf
   before-first =
-      stands (one-call .memory) headed headed (memory-kept-long past-one) (ap (λ xs. getD xs 0 false) (course .ranged)) refl
+      stands (one-call .memory) 0 headed headed (memory-kept-long past-one) (ap (λ xs. getD xs 0 false) (course .ranged)) refl
       (ap (heading 0) (course .enough)) (one-call .state) opened-at
 
   pub state-one : two-calls .state ≡ one end
   unfolding cutFormat positionAfter fresh limitOf chosen serves sblimit rowsOf
   state-one =
-      leaves (one-call .memory) (one-call .state) headed granules last end before-first (ap (λ xs. getD xs 0 (ran [] (readerAt 0))) (course .reads))
+      leaves (one-call .memory) 0 (one-call .state) headed granules last end before-first (ap (λ xs. getD xs 0 (ran [] (readerAt 0))) (course .reads))
       (ap (λ xs. getD xs 0 (readerAt 0)) (course .aligned))
 
-  pub before-second : before two-calls ≡ asked Known headed-two
+  pub before-second : before two-calls ≡ asked (104 - end / 8) Known headed-two
   unfolding headedOf
   before-second =
-      stands (two-calls .memory) (one end) headed-two (memory-kept-long past-two) (ap (λ xs. getD xs 1 false) (course .ranged))
+      stands (two-calls .memory) (104 - end / 8) (one end) headed-two (memory-kept-long past-two) (ap (λ xs. getD xs 1 false) (course .ranged))
       (ap (heading 1) (course .found)) (ap (heading 1) (course .enough)) (two-calls .state) state-one
 
   state-two : three-calls .state ≡ two
   unfolding cutFormat positionAfter fresh limitOf chosen serves sblimit rowsOf
   state-two =
-      leaves (two-calls .memory) (two-calls .state) headed-two silence 890 896 before-second (ap (λ xs. getD xs 1 (ran [] (readerAt 0))) (course .reads))
+      leaves (two-calls .memory) (104 - end / 8) (two-calls .state) headed-two silence 890 896 before-second (ap (λ xs. getD xs 1 (ran [] (readerAt 0))) (course .reads))
       (ap (λ xs. getD xs 1 (readerAt 0)) (course .aligned))
 
-  pub before-third : before three-calls ≡ asked Known headed-three
+  pub before-third : before three-calls ≡ asked 96 Known headed-three
   unfolding headedOf
   before-third =
-      stands (three-calls .memory) two headed-three (memory-kept-long past-three) (ap (λ xs. getD xs 2 false) (course .ranged))
+      stands (three-calls .memory) 96 two headed-three (memory-kept-long past-three) (ap (λ xs. getD xs 2 false) (course .ranged))
       (ap (heading 2) (course .found)) (ap (heading 2) (course .enough)) (three-calls .state) state-two

@@ -35,7 +35,7 @@ use Rattle.claims.specs.RingOut.{Agreeing, agree-on, rings-out}
 abbrev pub headed : Audio
 headed = pends (readerAt 32) (record { reading = plain; samplerate = 0; bitrate = 9; mode = 0; bound = 32 }) 622 (fresh plain)
 
-found : attemptOf zeros (fresh plain) ≡ asked Known headed
+found : attemptOf zeros (fresh plain) ≡ asked 0 Known headed
 unfolding attemptOf fresh headerOf startOf syncOf hasOf skipBytesOf fieldOf readOf bitsValue bitAt firstFrom run _>>=_ fieldsOf identOf ratesOf restOf
     modeOf boundOf checkOf sizeOf
 found = refl
@@ -56,14 +56,14 @@ module _ (m o : List Float) (long : memoryLength ≤ length m) (room : outputLen
   pub opened-on-zeros : Past (opening m o .state) (opening m o .memory)
   opened-on-zeros = opened plain zeros m (lit≤ tt) long
 
-  pub opened-to-header : openOf plain zeros m ≡ asked Known headed
+  pub opened-to-header : openOf plain zeros m ≡ asked 0 Known headed
   unfolding openOf noRoomOf
   opened-to-header = simp (le-ltb _ _ long) found
 
   at-header : opening m o .state ≡ headed
   at-header = ap (λ (x : Asked). x .state) opened-to-header
 
-  before-zeros : before (opening m o) ≡ asked Known headed
+  pub before-zeros : before (opening m o) ≡ asked 0 Known headed
   unfolding readyOf atOnceOf headedOf enoughOf hasOf
   before-zeros = simp (at-header, le-ltb _ _ (memory-kept-long opened-on-zeros), le-ltb _ _ room, sound)
 

@@ -1,6 +1,7 @@
 pub mod Reader
 pub mod Numbers
 pub mod Asking
+pub mod Passed
 pub mod Untouched
 pub mod Settled
 pub mod Standard

@@ -6,13 +6,12 @@ use mathlib.Core.Bool.{Bool, true, false, cond}
 use mathlib.Core.List.{List, [], _∷_, _++_, flatMap}
 use native.Mathlib.Omega.{arith}
 use lib.Dec.{eqb}
-use lib.Ieee.{Float}
 use lib.ListN.{length, getD}
 use borrow.Author.Tests.{lt-ltb, eqb-false, ltb-false}
 use Rattle.ground.specs.Tests.{by-test, neither}
 use Rattle.ground.specs.Rows.{never}
 use Rattle.buffer.specs.Calls.{left}
-use Rattle.synthesis.specs.Slots.{memoryLength}
+use Rattle.synthesis.specs.Slots.{memoryLength, quiet}
 use Rattle.header.specs.Readings.{plain}
 use Rattle.state.specs.declared.Audio.{Audio}
 use Rattle.verdict.specs.declared.Heading.{Heading}
@@ -23,8 +22,9 @@ use Rattle.audio.specs.declared.Answer.{Answer}
 use Rattle.audio.specs.declared.Answer.the-variants.{Frame, Refused}
 use Rattle.listing.specs.declared.Behind.the-variants.{Nothing, Words}
 use Rattle.listing.specs.declared.Line.{Line}
-use Rattle.listing.specs.declared.Line.the-variants.{Frame as FrameLine, Refused as RefusedLine, End, Long}
-use Rattle.listing.specs.Lines.{Shown, bytePosition, lineBy, isLast, nextOf, openingTold, openingShown, shownFrom, quiet, calledOf, tooLong, shownOf, linesIn, linesOf}
+use Rattle.listing.specs.declared.Line.the-variants.{Refused as RefusedLine, End, Long}
+use Rattle.listing.specs.Tally.{skippedIn}
+use Rattle.listing.specs.Lines.{Shown, bytePosition, lineBy, isLast, nextOf, openingTold, openingShown, carriedBy, shownFrom, calledOf, tooLong, shownOf, linesIn, linesOf}
 use Rattle.listing.specs.Text.{textBy, textsOf, listingOf}
 use Rattle.past.specs.Calls.{Call, outcome}
 use Rattle.past.specs.Moves.{call-moves}
@@ -57,38 +57,60 @@ one-more x xs e r =
     others (suc i) d l = r .others i d (omega arith)
 
 -- a line that is no end is a call that gave neither 1 nor 7
-no-end : (number : ℕ) (x : Answer) (a : Audio) → isLast (lineBy number x a) ≡ false → (answerNumber x ≡ 1 → ⊥) × (answerNumber x ≡ 7 → ⊥)
-no-end number (Frame time bits) a e = (λ z. omega arith, λ z. omega arith)
-no-end number (Refused n) a e = go (ends n) refl e
+no-end : (number skipped : ℕ) (x : Answer) (a : Audio) → isLast (lineBy number skipped x a) ≡ false → (answerNumber x ≡ 1 → ⊥) × (answerNumber x ≡ 7 → ⊥)
+no-end number skipped (Frame time bits) a e = (λ z. omega arith, λ z. omega arith)
+no-end number skipped (Refused n) a e = go (ends n) refl e
   where
-    go : (t : Bool) → ends n ≡ t → isLast (cond t (End n (bytePosition a)) (RefusedLine n (bytePosition a))) ≡ false → (n ≡ 1 → ⊥) × (n ≡ 7 → ⊥)
+    go : (t : Bool) → ends n ≡ t → isLast (cond t (End n (bytePosition a) skipped) (RefusedLine n (bytePosition a) skipped)) ≡ false
+        → (n ≡ 1 → ⊥) × (n ≡ 7 → ⊥)
     go true t f = absurd (never refl f)
     go false t f = let h = neither (eqb n 1) (eqb n 7) t in (eqb-false n 1 (h .0), eqb-false n 7 (h .1))
 
-abbrev pub lineAt : Call → Line
-lineAt c = nextOf (c .stream) (c .memory) (c .output) (c .state) .line
+-- a call's line, and those from it on, with so many bytes carried to it
+abbrev pub lineAt : ℕ → Call → Line
+lineAt carried c = nextOf (c .stream) (c .memory) (c .output) carried (c .state) .line
 
-abbrev pub linesFrom : ℕ → Call → List Line
-linesFrom calls c = linesIn (shownFrom calls (c .stream) (c .memory) (c .output) (c .state))
+abbrev pub linesFrom : ℕ → ℕ → Call → List Line
+linesFrom calls carried c = linesIn (shownFrom calls (c .stream) (c .memory) (c .output) carried (c .state))
+
+-- what is carried to a call's line is told there, beside what the call passed over, and not again in the lines behind it
+pub carried-once : (carried : ℕ) (c : Call) → skippedIn (lineAt carried c) ≡ carried + outcome c .skipped
+unfolding nextOf
+carried-once carried c = by (outcome c .answer)
+  where
+    by : (x : Answer) → skippedIn (lineBy (c .state .frames) (carried + outcome c .skipped) x (outcome c .state)) ≡ carried + outcome c .skipped
+    by (Frame time bits) = refl
+    by (Refused n) = by-test (λ (x : Line). skippedIn x ≡ carried + outcome c .skipped) (ends n) _ _ (λ _. refl) (λ _. refl)
+
+pub one-line : (calls carried : ℕ) (c : Call) (x : Line) → lineAt carried c ≡ x → isLast x ≡ false
+    → linesFrom (suc calls) carried c ≡ x ∷ linesFrom calls 0 (after c)
+unfolding shownFrom nextOf
+one-line calls carried c x e f = rw (e, f)
+
+pub last-line : (calls carried : ℕ) (c : Call) (x : Line) → lineAt carried c ≡ x → isLast x ≡ true → linesFrom (suc calls) carried c ≡ x ∷ []
+unfolding shownFrom nextOf
+last-line calls carried c x e f = rw (e, f)
 
 -- 16 bits at least go with each call before an end, and with fewer than 48 left it is one
-comes-to-an-end : (k calls : ℕ) (c : Call) → k < calls → Begun c → left (c .stream) (c .state .reader) < 48 + 16 * k → EndsOnce (linesFrom calls c)
+comes-to-an-end : (k calls carried : ℕ) (c : Call) → k < calls → Begun c → left (c .stream) (c .state .reader) < 48 + 16 * k
+    → EndsOnce (linesFrom calls carried c)
 unfolding shownFrom nextOf
-comes-to-an-end k zero c l b few = absurd (omega arith)
-comes-to-an-end zero (suc calls) c l b few =
-    by-test (λ (xs : List Shown). EndsOnce (lineAt c ∷ linesIn xs)) (isLast (lineAt c)) _ _ (at-once (lineAt c))
-    (λ e. let n = no-end (c .state .frames) (outcome c .answer) (outcome c .state) e in
+comes-to-an-end k zero carried c l b few = absurd (omega arith)
+comes-to-an-end zero (suc calls) carried c l b few =
+    by-test (λ (xs : List Shown). EndsOnce (lineAt carried c ∷ linesIn xs)) (isLast (lineAt carried c)) _ _ (at-once (lineAt carried c))
+    (λ e. let n = no-end (c .state .frames) (carried + outcome c .skipped) (outcome c .answer) (outcome c .state) e in
     absurd (let h = call-moves c b (n .0) (n .1) in omega arith))
-comes-to-an-end (suc k) (suc calls) c l b few =
-    by-test (λ (xs : List Shown). EndsOnce (lineAt c ∷ linesIn xs)) (isLast (lineAt c)) _ _ (at-once (lineAt c))
-    (λ e. let n = no-end (c .state .frames) (outcome c .answer) (outcome c .state) e in
+comes-to-an-end (suc k) (suc calls) carried c l b few =
+    by-test (λ (xs : List Shown). EndsOnce (lineAt carried c ∷ linesIn xs)) (isLast (lineAt carried c)) _ _ (at-once (lineAt carried c))
+    (λ e. let n = no-end (c .state .frames) (carried + outcome c .skipped) (outcome c .answer) (outcome c .state) e in
     let h = call-moves c b (n .0) (n .1) in
-    one-more (lineAt c) _ e (comes-to-an-end k calls (after c) (omega arith) (begun-on c b) (omega arith)))
+    one-more (lineAt carried c) _ e (comes-to-an-end k calls 0 (after c) (omega arith) (begun-on c b) (omega arith)))
 
-opening-first : (h : Heading) (a : Audio) (xs : List Shown) → EndsOnce (linesIn xs) → EndsOnce (linesIn (openingShown h a ++ xs))
-opening-first Known a xs e = e
-opening-first (HeadingRefused n) a xs e =
-    by-test (λ (ys : List Shown). EndsOnce (linesIn (ys ++ xs))) (openingTold n) _ _ (λ _. one-more (RefusedLine n (bytePosition a)) _ refl e) (λ _. e)
+opening-first : (skipped : ℕ) (h : Heading) (a : Audio) (xs : List Shown) → EndsOnce (linesIn xs) → EndsOnce (linesIn (openingShown skipped h a ++ xs))
+opening-first skipped Known a xs e = e
+opening-first skipped (HeadingRefused n) a xs e =
+    by-test (λ (ys : List Shown). EndsOnce (linesIn (ys ++ xs))) (openingTold n) _ _ (λ _. one-more (RefusedLine n (bytePosition a) skipped) _ refl e)
+    (λ _. e)
 
 -- so the listing of every stream ends, and says so
 pub listing-ends : (s : List ℕ) → EndsOnce (linesOf s)
@@ -97,8 +119,8 @@ listing-ends s =
     by-test (λ (xs : List Shown). EndsOnce (linesIn xs)) (tooLong s) _ _ (λ _. at-once Long refl)
     (λ t. let short = ltb-false 65536 (length s) t in
     let opened = openOf plain s (quiet memoryLength) in
-    opening-first (opened .answer) (opened .state) _
-    (comes-to-an-end (length s / 2 + 1) (length s / 2 + 2) (opening s) (omega arith) (opening-begun s (omega arith)) (omega arith)))
+    opening-first (opened .skipped) (opened .answer) (opened .state) _
+    (comes-to-an-end (length s / 2 + 1) (length s / 2 + 2) (carriedBy (opened .skipped) (opened .answer)) (opening s) (omega arith) (opening-begun s (omega arith)) (omega arith)))
 
 -- "the one line `long`"
 pub long-is-one-line : (s : List ℕ) → 65536 < length s → linesOf s ≡ Long ∷ []

@@ -21,7 +21,7 @@ use Rattle.side.specs.Side.{cutOf}
 use Rattle.codes.specs.Twins.{Twins, frame-twins}
 use Rattle.riff.specs.Level.{levelOf, bits16}
 use Rattle.window.specs.Output.{nought}
-use Rattle.synthesis.specs.Slots.{ringOf, memoryLength}
+use Rattle.synthesis.specs.Slots.{ringOf, memoryLength, quiet}
 use Rattle.synthesis.specs.Ring.{SameSlots}
 use Rattle.synthesis.specs.Memory.{ring-of-length}
 use Rattle.synthesis.specs.Equal.{slots-equal, rings-stay-equal, outputs-equal}
@@ -36,7 +36,7 @@ use Rattle.state.specs.declared.Audio.{Audio}
 use Rattle.verdict.specs.declared.Asked.{Asked}
 use Rattle.verdict.specs.declared.Heading.{Heading}
 use Rattle.verdict.specs.declared.Heading.the-variants.{Known, Refused}
-use Rattle.clip.specs.Frames.{Heard, quiet, clipOf}
+use Rattle.clip.specs.Frames.{Heard, clipOf}
 use Rattle.clip.specs.File.{fileOf}
 use Rattle.past.specs.Pasts.{Past, opened, asked, decoded, refused, relent}
 use Rattle.past.specs.Calls.{Call, outcome, newMemory, newOutput, sample, before, frameState, Accepts, granulesIn, known-leaves, accepted-known, accepted-leaves}
@@ -133,14 +133,14 @@ unfolding attemptOf fresh
 open-known s m =
     by-opening plain s m K (λ _ e. absurd (omega arith)) (λ _ _ e. absurd (omega arith))
     (λ _ _. let t = headerOf s (fresh plain .reader) (fresh plain .format) in
-    go (t .header) (t .next) (header-good s (fresh plain .reader) (fresh plain .format)))
+    go _ (t .header) (t .next) (header-good s (fresh plain .reader) (fresh plain .format)))
   where
     K : Asked → Type 0
     K x = x .state .format .mode ≡ 3 → x .state .format .samplerate ≡ 3 → ⊥
 
-    go : (h : Header) (r : Reader) → GoodHeader (fresh plain .format) h → K (seeking (fresh plain) r h)
-    go (Accepted f n) r g = λ _ none. let l = g .samplerate in omega arith
-    go (HeaderRefused n) r g = λ e. absurd (omega arith)
+    go : (k : ℕ) (h : Header) (r : Reader) → GoodHeader (fresh plain .format) h → K (seeking k (fresh plain) r h)
+    go k (Accepted f n) r g = λ _ none. let l = g .samplerate in omega arith
+    go k (HeaderRefused n) r g = λ e. absurd (omega arith)
 
 record InMono (c : Call) : Type 0 where
   past : Past (c .state) (c .memory)

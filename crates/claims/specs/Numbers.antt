@@ -1,6 +1,7 @@
 -- The three public calls by 01's table: each number given exactly when, what is left behind, and the order where several would hold:
--- 8, 9, 10, then 1 to 6 as the header is read, then 7. Each table has its rows as constructors. Assumes nothing.
-use Prim.Native.Nat.{ℕ, _*_, _≤_, _<_}
+-- 8, 9, 10, then 1 to 6 as the header is read, then 7. Each row also says how many bytes were passed over (02, E2). Each table has its
+-- rows as constructors. Assumes nothing.
+use Prim.Native.Nat.{ℕ, _-_, _*_, _≤_, _<_}
 use mathlib.Core.Path.{_≡_, refl, sym, ap, subst, _∙_}
 use mathlib.Core.Bool.{true, false}
 use mathlib.Core.List.{List}
@@ -9,10 +10,11 @@ use native.Mathlib.Omega.{arith}
 use lib.Ieee.{Float}
 use lib.ListN.{length}
 use borrow.Author.Tests.{lt-ltb, le-ltb, eq-eqb, ne-eqb}
-use Rattle.buffer.specs.Calls.{left}
+use Rattle.buffer.specs.Calls.{byteAfterOf, left}
+use Rattle.buffer.specs.declared.BytePos.{BytePos}
 use Rattle.buffer.specs.declared.Reader.{Reader}
 use Rattle.tables.specs.Standard.{rateOf, kbpsOf}
-use Rattle.header.specs.Header.{headerOf, headerNumber}
+use Rattle.header.specs.Header.{headerOf, refusal, headerNumber}
 use Rattle.header.specs.declared.Format.{Format}
 use Rattle.header.specs.declared.Header.{Header}
 use Rattle.header.specs.declared.Header.the-variants.{Accepted, Refused as HeaderRefused}
@@ -36,7 +38,7 @@ use Rattle.audio.specs.declared.Decoded.{Decoded}
 use Rattle.ground.specs.Rows.{TableOf, exactly, never}
 use Rattle.synthesis.specs.Slots.{memoryLength, outputLength}
 use Rattle.buffer.specs.Bits.{longestStream}
-use Rattle.header.specs.Attempts.{Attempts, refusal, attempt-table, attempt-number, first-number}
+use Rattle.header.specs.Attempts.{Attempts, attempt-table, attempt-number, first-number}
 use Rattle.past.specs.Pasts.{Past}
 use Rattle.past.specs.Sound.{fresh-in-range, sound-state-in-range}
 
@@ -50,31 +52,37 @@ Lent s memory output = Room s (length memory) (length output)
 abbrev pub InOrder : List ℕ → List Float → List Float → Audio → Type 0
 InOrder s memory output a = Called s (length memory) (length output) a
 
--- the state with a header pending: the one that waits, or the one that an attempt accepts
-pub data Pending (s : List ℕ) (a : Audio) : Audio → Type 0 where
-  waits : (a .pending ≡ 0 → ⊥) → Pending s a a
-  accepts : {f : Format} {size : ℕ} {r : Reader} → a .pending ≡ 0
-      → Attempts s (a .reader) (a .format) 0 (record { header = Accepted f size; next = r }) → Pending s a (pends r f size a)
+-- from the aligned start of an attempt to a byte: "those from its aligned start, to the FF of the sync, or to the stream's end"
+abbrev pub passed : Audio → BytePos → ℕ
+passed a sync = sync .0 - byteAfterOf (a .reader .at) .0
 
-abbrev pub refused : ℕ → Audio → Decoded
-refused n a = record { answer = AnswerRefused n; state = a }
+-- the state with a header pending, and the bytes passed over: the one that waits, or the one that an attempt accepts
+pub data Pending (s : List ℕ) (a : Audio) : ℕ → Audio → Type 0 where
+  waits : (a .pending ≡ 0 → ⊥) → Pending s a 0 a
+  accepts : {f : Format} {size : ℕ} {b : BytePos} {r : Reader} → a .pending ≡ 0
+      → Attempts s (a .reader) (a .format) 0 (record { header = Accepted f size; sync = b; next = r }) → Pending s a (passed a b) (pends r f size a)
+
+-- so many bytes passed over, a number, and the state
+abbrev pub refused : ℕ → ℕ → Audio → Decoded
+refused skipped n a = record { answer = AnswerRefused n; state = a; skipped = skipped }
 
 pub data Decodes (s : List ℕ) (memory output : List Float) (a : Audio) : ℕ → Decoded → Type 0 where
   -- "stream above 16,777,216 bytes": "same state"
-  eight : longestStream < length s → Decodes s memory output a 8 (refused 8 a)
+  eight : longestStream < length s → Decodes s memory output a 8 (refused 0 8 a)
   -- "synthesis memory under 2,048 or output under 2,304": "same state"
-  nine : length s ≤ longestStream → (length memory < memoryLength) ⊎ (length output < outputLength) → Decodes s memory output a 9 (refused 9 a)
+  nine : length s ≤ longestStream → (length memory < memoryLength) ⊎ (length output < outputLength) → Decodes s memory output a 9 (refused 0 9 a)
   -- "state out of range": "same state"
-  ten : Lent s memory output → inRange a ≡ false → Decodes s memory output a 10 (refused 10 a)
-  -- 1 to 6: no header pending, and the attempt gives it: "position moved", "old format kept"; with 1 the position is the same
-  sought : {n : ℕ} {r : Reader} → InOrder s memory output a → a .pending ≡ 0 → Attempts s (a .reader) (a .format) n (refusal n r)
-      → Decodes s memory output a n (refused n (standsAt r a))
-  -- "header pending, fewer bits remain than 8 times its data size": "state as after that header, still pending"
-  seven : {b : Audio} → InOrder s memory output a → Pending s a b → left s (b .reader) < 8 * b .pending
-      → Decodes s memory output a 7 (refused 7 b)
+  ten : Lent s memory output → inRange a ≡ false → Decodes s memory output a 10 (refused 0 10 a)
+  -- 1 to 6: no header pending, and the attempt gives it: "position moved", "old format kept"; with 1 the position is the same, and no byte
+  -- is passed over
+  sought : {n : ℕ} {b : BytePos} {r : Reader} → InOrder s memory output a → a .pending ≡ 0 → Attempts s (a .reader) (a .format) n (refusal n b r)
+      → Decodes s memory output a n (refused (passed a b) n (standsAt r a))
+  -- "header pending, fewer bits remain than 8 times its data size": "state as after that header, still pending". So a repeated 7 passes none
+  seven : {k : ℕ} {b : Audio} → InOrder s memory output a → Pending s a k b → left s (b .reader) < 8 * b .pending
+      → Decodes s memory output a 7 (refused k 7 b)
   -- "frame decoded"
-  zero : {b : Audio} → InOrder s memory output a → Pending s a b → 8 * b .pending ≤ left s (b .reader)
-      → Decodes s memory output a 0 (framedOf s b)
+  zero : {k : ℕ} {b : Audio} → InOrder s memory output a → Pending s a k b → 8 * b .pending ≤ left s (b .reader)
+      → Decodes s memory output a 0 (framedOf s k b)
 
 no-both : {n : ℕ} → Known ≡ Refused n → ⊥
 no-both e = let z : _≡_ {A = ℕ} 0 1 = cc in omega arith
@@ -90,41 +98,48 @@ module _ (s : List ℕ) (a : Audio) (short : length s ≤ longestStream) (within
 
   -- and the row that it stands in, by its answer
   module _ {b : Audio} (z : a .pending ≡ 0) where
-    accepted-row : attemptOf s a ≡ asked Known b → Pending s a b
+    accepted-row : {k : ℕ} → attemptOf s a ≡ asked k Known b → Pending s a k b
     unfolding attemptOf
-    accepted-row e = by (headerOf s (a .reader) (a .format) .header) (headerOf s (a .reader) (a .format) .next) (rows .holds) e
+    accepted-row {k} e = by (t .header) (t .sync) (t .next) (rows .holds) e
       where
-        by : (h : Header) (r : Reader) → Attempts s (a .reader) (a .format) (headerNumber h) (record { header = h; next = r })
-            → seeking a r h ≡ asked Known b → Pending s a b
-        by (Accepted f size) r row e = subst (Pending s a) (ap (λ (x : Asked). x .state) e) (accepts z row)
-        by (HeaderRefused n) r row e = absurd (no-both (sym (ap (λ (x : Asked). x .answer) e)))
+        t : Attempt
+        t = headerOf s (a .reader) (a .format)
 
-    refused-row : {n : ℕ} (P : Asked → Type 0)
-        → ((n : ℕ) (r : Reader) → Attempts s (a .reader) (a .format) n (refusal n r) → P (asked (Refused n) (standsAt r a)))
-        → attemptOf s a ≡ asked (Refused n) b → P (asked (Refused n) b)
+        by : (h : Header) (c : BytePos) (r : Reader) → Attempts s (a .reader) (a .format) (headerNumber h) (record { header = h; sync = c; next = r })
+            → seeking (passed a c) a r h ≡ asked k Known b → Pending s a k b
+        by (Accepted f size) c r row e =
+            subst (λ (x : Asked). Pending s a (x .skipped) (x .state)) e (accepts z row)
+        by (HeaderRefused n) c r row e = absurd (no-both (sym (ap (λ (x : Asked). x .answer) e)))
+
+    refused-row : {k n : ℕ} (P : Asked → Type 0)
+        → ((n : ℕ) (c : BytePos) (r : Reader) → Attempts s (a .reader) (a .format) n (refusal n c r) → P (asked (passed a c) (Refused n) (standsAt r a)))
+        → attemptOf s a ≡ asked k (Refused n) b → P (asked k (Refused n) b)
     unfolding attemptOf
-    refused-row {n} P row e = by (headerOf s (a .reader) (a .format) .header) (headerOf s (a .reader) (a .format) .next) (rows .holds) e
+    refused-row {k} {n} P row e = by (t .header) (t .sync) (t .next) (rows .holds) e
       where
-        by : (h : Header) (r : Reader) → Attempts s (a .reader) (a .format) (headerNumber h) (record { header = h; next = r })
-            → seeking a r h ≡ asked (Refused n) b → P (asked (Refused n) b)
-        by (Accepted f size) r t e = absurd (no-both (ap (λ (x : Asked). x .answer) e))
-        by (HeaderRefused k) r t e = subst P e (row k r t)
+        t : Attempt
+        t = headerOf s (a .reader) (a .format)
+
+        by : (h : Header) (c : BytePos) (r : Reader) → Attempts s (a .reader) (a .format) (headerNumber h) (record { header = h; sync = c; next = r })
+            → seeking (passed a c) a r h ≡ asked k (Refused n) b → P (asked k (Refused n) b)
+        by (Accepted f size) c r t e = absurd (no-both (ap (λ (x : Asked). x .answer) e))
+        by (HeaderRefused m) c r t e = subst P e (row m c r t)
 
 module _ (s : List ℕ) (memory output : List Float) (a : Audio) where
   abbrev Before : Asked → Type 0
   Before x = Verdict s (length memory) (length output) a x
 
-  headed : {b : Audio} → InOrder s memory output a → Pending s a b → Heads s a b
+  headed : {k : ℕ} {b : Audio} → InOrder s memory output a → Pending s a k b → Heads s a k b
   headed c (waits n) = Heads.waits n
   headed c (accepts z t) = Heads.accepts z (attempted s a (c .room .short) (c .within) t)
 
-  pending : {b : Audio} → InOrder s memory output a → Heads s a b → Pending s a b
+  pending : {k : ℕ} {b : Audio} → InOrder s memory output a → Heads s a k b → Pending s a k b
   pending c (Heads.waits n) = waits n
   pending c (Heads.accepts z e) = accepted-row s a (c .room .short) (c .within) z e
 
-  decode-by : {x : Asked} → Before x → answering s (x .answer) (x .state) ≡ decodeOf s memory output a
+  decode-by : {x : Asked} → Before x → answering s (x .skipped) (x .answer) (x .state) ≡ decodeOf s memory output a
   unfolding decodeOf
-  decode-by v = ap (λ (y : Asked). answering s (y .answer) (y .state)) (verdict-only s (length memory) (length output) a v)
+  decode-by v = ap (λ (y : Asked). answering s (y .skipped) (y .answer) (y .state)) (verdict-only s (length memory) (length output) a v)
 
   decode-only : {n : ℕ} {x : Decoded} → Decodes s memory output a n x → (x ≡ decodeOf s memory output a) × (answerNumber (x .answer) ≡ n)
   unfolding framedOf afterOf
@@ -136,14 +151,14 @@ module _ (s : List ℕ) (memory output : List Float) (a : Audio) where
   decode-only (zero c h l) = (decode-by (whole c (headed c h) l), refl)
 
   Stands : Asked → Type 0
-  Stands x = Decodes s memory output a (answerNumber (answering s (x .answer) (x .state) .answer)) (answering s (x .answer) (x .state))
+  Stands x = let d = answering s (x .skipped) (x .answer) (x .state) in Decodes s memory output a (answerNumber (d .answer)) d
 
   decode-stands : {x : Asked} → Before x → Stands x
   unfolding Stands framedOf afterOf
   decode-stands (at-once (AtOnce.eight l)) = eight l
   decode-stands (at-once (AtOnce.nine l m)) = nine l m
   decode-stands (at-once (AtOnce.ten l r)) = ten l r
-  decode-stands (no-header c z e) = refused-row s a (c .room .short) (c .within) z Stands (λ n r t. sought c z t) e
+  decode-stands (no-header c z e) = refused-row s a (c .room .short) (c .within) z Stands (λ n b r t. sought c z t) e
   decode-stands (cut-off c h l) = seven c (pending c h) l
   decode-stands (whole c h l) = zero c (pending c h) l
 
@@ -152,36 +167,36 @@ module _ (s : List ℕ) (memory output : List Float) (a : Audio) where
   decode-table = record { holds = decode-stands (verdict-holds s (length memory) (length output) a); only = decode-only }
 
   -- a header found leaves a state in range
-  pub pending-within : {b : Audio} → InOrder s memory output a → Pending s a b → inRange b ≡ true
-  pending-within {b} c h = in-range b (heads-kept c (headed c h) .ranged)
+  pub pending-within : {k : ℕ} {b : Audio} → InOrder s memory output a → Pending s a k b → inRange b ≡ true
+  pending-within {k} {b} c h = in-range b (heads-kept c (headed c h) .ranged)
 
   -- a decoded frame's memory and output are that frame's; every other row leaves them (Untouched)
-  pub decoded-frame-writes : {b : Audio} → InOrder s memory output a → Pending s a b → 8 * b .pending ≤ left s (b .reader)
+  pub decoded-frame-writes : {k : ℕ} {b : Audio} → InOrder s memory output a → Pending s a k b → 8 * b .pending ≤ left s (b .reader)
       → (decodeMemory s memory output a ≡ framedMemory s b memory) × (decodeOutput s memory output a ≡ framedOutput s b memory output)
   unfolding decodeMemory decodeOutput
-  decoded-frame-writes {b} c h l =
+  decoded-frame-writes c h l =
       let e = sym (verdict-only s (length memory) (length output) a (whole c (headed c h) l)) in
       (ap (λ (x : Asked). remembering s memory (x .answer) (x .state)) e, ap (λ (x : Asked). sounding s memory output (x .answer) (x .state)) e)
 
 -- ---- an attempt's answer, for the calls that do no more
 
 module _ (s : List ℕ) (a : Audio) (short : length s ≤ longestStream) (within : inRange a ≡ true) where
-  tried-number : (h : Header) (r : Reader) → headingNumber (seeking a r h .answer) ≡ headerNumber h
-  tried-number (Accepted f n) r = refl
-  tried-number (HeaderRefused n) r = refl
+  tried-number : (k : ℕ) (h : Header) (r : Reader) → headingNumber (seeking k a r h .answer) ≡ headerNumber h
+  tried-number k (Accepted f n) r = refl
+  tried-number k (HeaderRefused n) r = refl
 
   tried-stands : (Row : ℕ → Asked → Type 0) → ((n : ℕ) (x : Attempt) → Attempts s (a .reader) (a .format) n x → Row n (tried a x))
       → Row (headingNumber (attemptOf s a .answer)) (attemptOf s a)
   unfolding attemptOf
   tried-stands Row f =
       let t = headerOf s (a .reader) (a .format) in
-      subst (λ n. Row n (tried a t)) (sym (tried-number (t .header) (t .next)))
+      subst (λ n. Row n (tried a t)) (sym (tried-number _ (t .header) (t .next)))
       (f _ t (rows s a short within .holds))
 
   tried-only : {n : ℕ} {x : Attempt} → Attempts s (a .reader) (a .format) n x
       → (tried a x ≡ attemptOf s a) × (headingNumber (tried a x .answer) ≡ n)
   tried-only {x = x} t =
-      (sym (attempted s a short within t), tried-number (x .header) (x .next) ∙ rows s a short within .only t .1)
+      (sym (attempted s a short within t), tried-number _ (x .header) (x .next) ∙ rows s a short within .only t .1)
 
 -- ---- format: "8, 10, then 0 if a header is known, else 1 to 5 or 0" (01); "sample rate, kbps and mode, or .. the refusal number" (02, E7)
 
@@ -189,22 +204,22 @@ module _ (s : List ℕ) (a : Audio) (short : length s ≤ longestStream) (within
 abbrev pub told : Format → Reply
 told f = ReplyFormat (rateOf (f .samplerate)) (kbpsOf (f .bitrate)) (f .mode)
 
-abbrev pub unanswered : ℕ → Audio → Replied
-unanswered n a = record { answer = ReplyRefused n; state = a }
+abbrev pub unanswered : ℕ → ℕ → Audio → Replied
+unanswered skipped n a = record { answer = ReplyRefused n; state = a; skipped = skipped }
 
 pub data Asks (s : List ℕ) (a : Audio) : ℕ → Replied → Type 0 where
   -- "same state"; also where a format is known
-  eight : longestStream < length s → Asks s a 8 (unanswered 8 a)
-  ten : length s ≤ longestStream → inRange a ≡ false → Asks s a 10 (unanswered 10 a)
+  eight : longestStream < length s → Asks s a 8 (unanswered 0 8 a)
+  ten : length s ≤ longestStream → inRange a ≡ false → Asks s a 10 (unanswered 0 10 a)
   -- known since an earlier header: nothing is sought
-  known : length s ≤ longestStream → inRange a ≡ true → (a .format .samplerate ≡ 3 → ⊥) → Asks s a 0 (record { answer = told (a .format); state = a })
+  known : length s ≤ longestStream → inRange a ≡ true → (a .format .samplerate ≡ 3 → ⊥) → Asks s a 0 (record { answer = told (a .format); state = a; skipped = 0 })
   -- sought and accepted: its header is pending
-  accepted : {f : Format} {size : ℕ} {r : Reader} → length s ≤ longestStream → inRange a ≡ true → a .format .samplerate ≡ 3
-      → Attempts s (a .reader) (a .format) 0 (record { header = Accepted f size; next = r })
-      → Asks s a 0 (record { answer = told f; state = pends r f size a })
+  accepted : {f : Format} {size : ℕ} {b : BytePos} {r : Reader} → length s ≤ longestStream → inRange a ≡ true → a .format .samplerate ≡ 3
+      → Attempts s (a .reader) (a .format) 0 (record { header = Accepted f size; sync = b; next = r })
+      → Asks s a 0 (record { answer = told f; state = pends r f size a; skipped = passed a b })
   -- sought and refused, 1 to 5: "position moved"; with 1 it is the same
-  sought : {n : ℕ} {r : Reader} → length s ≤ longestStream → inRange a ≡ true → a .format .samplerate ≡ 3
-      → Attempts s (a .reader) (a .format) n (refusal n r) → Asks s a n (unanswered n (standsAt r a))
+  sought : {n : ℕ} {b : BytePos} {r : Reader} → length s ≤ longestStream → inRange a ≡ true → a .format .samplerate ≡ 3
+      → Attempts s (a .reader) (a .format) n (refusal n b r) → Asks s a n (unanswered (passed a b) n (standsAt r a))
 
 module _ (s : List ℕ) (a : Audio) where
   Replies : Asked → Type 0
@@ -212,11 +227,12 @@ module _ (s : List ℕ) (a : Audio) where
 
   attempt-replies : length s ≤ longestStream → inRange a ≡ true → a .format .samplerate ≡ 3 → Replies (attemptOf s a)
   unfolding attemptOf Replies
-  attempt-replies l w e = by (headerOf s (a .reader) (a .format) .header) (headerOf s (a .reader) (a .format) .next) (rows s a l w .holds)
+  attempt-replies l w e = let t = headerOf s (a .reader) (a .format) in by (t .header) (t .sync) (t .next) (rows s a l w .holds)
     where
-      by : (h : Header) (r : Reader) → Attempts s (a .reader) (a .format) (headerNumber h) (record { header = h; next = r }) → Replies (seeking a r h)
-      by (Accepted f size) r row = accepted l w e row
-      by (HeaderRefused n) r row = sought l w e row
+      by : (h : Header) (b : BytePos) (r : Reader) → Attempts s (a .reader) (a .format) (headerNumber h) (record { header = h; sync = b; next = r })
+          → Replies (seeking (passed a b) a r h)
+      by (Accepted f size) b r row = accepted l w e row
+      by (HeaderRefused n) b r row = sought l w e row
 
   question-only : {n : ℕ} {x : Replied} → Asks s a n x → (x ≡ formatOf s a) × (replyNumber (x .answer) ≡ n)
   unfolding formatOf knownOf atOnceOf
@@ -243,8 +259,8 @@ question-gives s a = question-row (question-table s a .holds)
 -- ---- new: "it can give 0 to 5, 8 or 9 (memory only)"
 
 pub data Opens (c : Reading) (s : List ℕ) (memory : List Float) : ℕ → Asked → Type 0 where
-  eight : longestStream < length s → Opens c s memory 8 (asked (Refused 8) (fresh c))
-  nine : length s ≤ longestStream → length memory < memoryLength → Opens c s memory 9 (asked (Refused 9) (fresh c))
+  eight : longestStream < length s → Opens c s memory 8 (asked 0 (Refused 8) (fresh c))
+  nine : length s ≤ longestStream → length memory < memoryLength → Opens c s memory 9 (asked 0 (Refused 9) (fresh c))
   sought : {n : ℕ} {x : Attempt} → length s ≤ longestStream → memoryLength ≤ length memory → Attempts s (fresh c .reader) (fresh c .format) n x
       → Opens c s memory n (tried (fresh c) x)
 

@@ -9,10 +9,11 @@ use lib.IntN.{pos}
 use lib.Ieee.{Float, fin, isNan, toBits, div, ofInt, round, units, odd, size}
 use lib.ListN.{length, replicate, length-replicate}
 use borrow.Author.Tests.{lt-ltb}
+use Rattle.synthesis.specs.Slots.{quiet}
 use Rattle.ground.specs.First.{firstFrom}
 use Rattle.ground.specs.Table.{table, length-table}
 use Rattle.buffer.specs.Bits.{longestStream, bitAt, bitsValue}
-use Rattle.buffer.specs.Calls.{readerAt, readOf, fieldOf, hasOf, skipBytesOf, searchOf}
+use Rattle.buffer.specs.Calls.{readerAt, byteAt, readOf, fieldOf, hasOf, skipBytesOf, searchOf}
 use Rattle.grammar.specs.Reads.{_>>=_, run}
 use Rattle.tables.specs.Standard.{rateOf}
 use Rattle.header.specs.Header.{headerOf, startOf, syncOf, seekOf, fieldsOf, identOf, ratesOf, restOf, modeOf, boundOf, checkOf, sizeOf}
@@ -27,8 +28,9 @@ use Rattle.state.specs.declared.Audio.{Audio}
 use Rattle.audio.specs.declared.Reply.the-variants.{Format as ReplyFormat, Refused as ReplyRefused}
 use Rattle.verdict.specs.declared.Heading.{Heading}
 use Rattle.verdict.specs.declared.Heading.the-variants.{Known, Refused}
-use Rattle.listing.specs.Lines.{nextOf}
-use Rattle.clip.specs.Frames.{quiet, heardOf, clipOf}
+use Rattle.listing.specs.Lines.{nextOf, shownFrom, calledOf, shownOf, linesOf}
+use Rattle.listing.specs.declared.Line.the-variants.{Refused as RefusedLine, End}
+use Rattle.clip.specs.Frames.{heardOf, clipOf}
 use Rattle.claims.specs.Numbers.{Lent}
 use Rattle.past.specs.Pasts.{Past, opened}
 
@@ -39,11 +41,11 @@ verdict s memory output a = headingNumber (readyOf s memory output a .answer)
 pub number-by-verdict : (s : List ℕ) (memory output : List Float) (a : Audio)
     → answerNumber (decodeOf s memory output a .answer) ≡ headingNumber (readyOf s (length memory) (length output) a .answer)
 unfolding decodeOf framedOf afterOf
-number-by-verdict s memory output a = let r = readyOf s (length memory) (length output) a in go (r .answer) (r .state)
+number-by-verdict s memory output a = let r = readyOf s (length memory) (length output) a in go (r .skipped) (r .answer) (r .state)
   where
-    go : (h : Heading) (b : Audio) → answerNumber (answering s h b .answer) ≡ headingNumber h
-    go Known b = refl
-    go (Refused n) b = refl
+    go : (k : ℕ) (h : Heading) (b : Audio) → answerNumber (answering s k h b .answer) ≡ headingNumber h
+    go k Known b = refl
+    go k (Refused n) b = refl
 
 -- a state whose clip began at 32 kbps, 44,100 Hz, in stereo; and one after a frame, with the ring between two slots
 abbrev pub begun : Audio
@@ -73,6 +75,51 @@ unfolding readyOf atOnceOf headedOf attemptOf enoughOf fresh inRange numbersOk o
     modeOf boundOf checkOf sizeOf
 numbers-occur = refl
 
+-- 02, E2: the same numbers, with two zero bytes in front. All but 1, 9 and 10 tell what was passed over; 2 tells all eight bytes
+abbrev passed : List ℕ → Audio → ℕ
+passed s a = readyOf (0 ∷ 0 ∷ s) 2048 2304 a .skipped
+
+pub passed-over-occurs : passed (header ++ replicate 622 0) (fresh plain)
+    ∷ passed [] (fresh plain)
+    ∷ passed (1 ∷ replicate 5 0) (fresh plain)
+    ∷ passed (0xFF ∷ 0xFB ∷ replicate 4 0) (fresh plain)
+    ∷ passed (0xFF ∷ 0xFD ∷ replicate 4 0) (fresh plain)
+    ∷ passed (0xFF ∷ 0xFD ∷ 0xAC ∷ replicate 3 0) (fresh plain)
+    ∷ passed (header ++ replicate 2 0) begun
+    ∷ passed (header ++ replicate 2 0) (fresh plain)
+    ∷ readyOf (0 ∷ 0 ∷ header) 2047 2304 (fresh plain) .skipped
+    ∷ passed header broken
+    ∷ []
+    ≡ 2 ∷ 0 ∷ 8 ∷ 2 ∷ 2 ∷ 2 ∷ 2 ∷ 2 ∷ 0 ∷ 0 ∷ []
+unfolding readyOf atOnceOf headedOf attemptOf enoughOf fresh inRange numbersOk onTime sameBits startTimeOf isNan toBits div ofInt round units odd size
+    headerOf startOf syncOf seekOf searchOf hasOf skipBytesOf fieldOf readOf bitsValue bitAt firstFrom run _>>=_ fieldsOf identOf ratesOf restOf
+    modeOf boundOf checkOf sizeOf
+passed-over-occurs = refl
+
+-- a cut frame behind three bytes: the first call's 7 tells them, and a repeated one none
+abbrev cutBehindThree : List ℕ
+cutBehindThree = 1 ∷ 2 ∷ 3 ∷ header ++ replicate 2 0
+
+pub seven-tells-it-once : let x = readyOf cutBehindThree 2048 2304 (fresh plain) in
+    let y = readyOf cutBehindThree 2048 2304 (x .state) in
+    (x .answer ∷ y .answer ∷ [] ≡ Refused 7 ∷ Refused 7 ∷ []) × (x .skipped ∷ y .skipped ∷ [] ≡ 3 ∷ 0 ∷ [])
+unfolding readyOf atOnceOf headedOf attemptOf enoughOf fresh inRange numbersOk onTime sameBits startTimeOf isNan toBits div ofInt round units odd size
+    headerOf startOf syncOf seekOf searchOf hasOf skipBytesOf fieldOf readOf bitsValue bitAt firstFrom run _>>=_ fieldsOf identOf ratesOf restOf
+    modeOf boundOf checkOf sizeOf
+seven-tells-it-once = (refl, refl)
+
+-- and the listing: what an accepted opening passed over goes to the next line; a refused one tells its own, and the line behind it only what
+-- its own call passed over
+abbrev refusedThenCut : List ℕ
+refusedThenCut = 1 ∷ 0xFF ∷ 0xFD ∷ 0x00 ∷ 5 ∷ 6 ∷ header ++ replicate 2 0
+
+pub lines-tell-it-once : (linesOf cutBehindThree ≡ End 7 (byteAt 7) 3 ∷ [])
+    × (linesOf refusedThenCut ≡ RefusedLine 4 (byteAt 3) 1 ∷ End 7 (byteAt 10) 2 ∷ [])
+unfolding shownOf calledOf shownFrom nextOf decodeOf openOf openMemory noRoomOf blank table readyOf atOnceOf headedOf attemptOf enoughOf fresh inRange numbersOk onTime sameBits
+    startTimeOf isNan toBits div ofInt round units odd size headerOf startOf syncOf seekOf searchOf hasOf skipBytesOf fieldOf readOf bitsValue bitAt
+    firstFrom run _>>=_ fieldsOf identOf ratesOf restOf modeOf boundOf checkOf sizeOf
+lines-tell-it-once = (refl, refl)
+
 -- an opening gives 0 to 5 and 9 (memory only), a question tells a format or gives 1 to 5 and 10
 abbrev firsts : List (List ℕ)
 firsts =
@@ -98,11 +145,11 @@ spoken = 0xFF ∷ 0xFD ∷ 0x44 ∷ 0xC0 ∷ 0 ∷ 0 ∷ []
 abbrev voice : Format
 voice = record { reading = plain; samplerate = 1; bitrate = 3; mode = 3; bound = 0 }
 
--- each of the three values is told, and the header's 188 bytes of data are pending; a refused question has moved on, to the end; and a
--- format that is known is told whatever follows in the stream
-pub formats-occur : (formatOf spoken (fresh plain) ≡ record { answer = ReplyFormat 48000 64 3; state = pends (readerAt 32) voice 188 (fresh plain) })
-    × (formatOf (1 ∷ replicate 5 0) (fresh plain) ≡ record { answer = ReplyRefused 2; state = standsAt (readerAt 48) (fresh plain) })
-    × (formatOf spoken begun ≡ record { answer = ReplyFormat 44100 32 0; state = begun })
+-- each of the three values is told, and the header's 188 bytes of data are pending; a refused question has moved on, to the end, past six
+-- bytes; and a format that is known is told whatever follows in the stream
+pub formats-occur : (formatOf spoken (fresh plain) ≡ record { answer = ReplyFormat 48000 64 3; state = pends (readerAt 32) voice 188 (fresh plain); skipped = 0 })
+    × (formatOf (1 ∷ replicate 5 0) (fresh plain) ≡ record { answer = ReplyRefused 2; state = standsAt (readerAt 48) (fresh plain); skipped = 6 })
+    × (formatOf spoken begun ≡ record { answer = ReplyFormat 44100 32 0; state = begun; skipped = 0 })
 unfolding formatOf knownOf atOnceOf attemptOf fresh inRange numbersOk onTime sameBits startTimeOf isNan toBits div ofInt headerOf startOf syncOf seekOf
     searchOf hasOf skipBytesOf fieldOf readOf bitsValue bitAt firstFrom run _>>=_ fieldsOf identOf ratesOf restOf modeOf boundOf checkOf sizeOf
 formats-occur = (refl, refl, refl)
@@ -113,7 +160,7 @@ cut = 0xFF ∷ 0xFD ∷ 0xA4 ∷ replicate 3 0
 
 -- no frame is heard of an empty clip, nor of one cut after its header: then E1's rate is 44,100, and not the header's (Wave `no-frame`)
 pub silence-occurs : (clipOf [] ≡ []) × (clipOf cut ≡ []) × (rateOf (attemptOf cut (fresh plain) .state .format .samplerate) ≡ 48000)
-unfolding clipOf heardOf nextOf decodeOf openOf openMemory noRoomOf blank table readyOf atOnceOf headedOf attemptOf enoughOf fresh inRange numbersOk
+unfolding clipOf heardOf decodeOf openOf openMemory noRoomOf blank table readyOf atOnceOf headedOf attemptOf enoughOf fresh inRange numbersOk
     onTime sameBits startTimeOf isNan toBits div ofInt round units odd size headerOf startOf syncOf seekOf searchOf hasOf skipBytesOf fieldOf readOf
     bitsValue bitAt firstFrom run _>>=_ fieldsOf identOf ratesOf restOf modeOf boundOf checkOf sizeOf
 silence-occurs = (refl, refl, refl)

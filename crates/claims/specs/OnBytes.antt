@@ -167,8 +167,8 @@ module _ (s : List ℕ) (short : length s ≤ longestStream) where
   -- ---- where the fields begin
 
   abbrev Begins : Start → Type 0
-  Begins (At q) = (q .at .0 % 8 ≡ 3) × (q .at .0 + 5 ≤ 8 * length s)
-  Begins (StartRefused n q) = Unit
+  Begins (At sync q) = (q .at .0 % 8 ≡ 3) × (q .at .0 + 5 ≤ 8 * length s)
+  Begins (StartRefused n sync q) = Unit
 
   seek-begins : (r : Reader) → r .at .0 ≤ 8 * length s → Begins (seekOf s r)
   unfolding seekOf searchOf
@@ -198,8 +198,8 @@ module _ (s : List ℕ) (short : length s ≤ longestStream) where
       simp (le-ltb _ _ (h .short), le-ltb _ _ (h .near), le-ltb _ _ (h .enough)) (sync-begins (pastOf s 0 from) (omega arith))
 
   begun-ends : (known : Format) (x : Start) → Begins x → OnByte (byStart s known x .header) (byStart s known x .next)
-  begun-ends known (At q) h = fields-end known q (h .0) (h .1)
-  begun-ends known (StartRefused n q) h = tt
+  begun-ends known (At sync q) h = fields-end known q (h .0) (h .1)
+  begun-ends known (StartRefused n sync q) h = tt
 
   -- an accepted header ends on a byte
   header-on-byte : (r : Reader) (known : Format) → r .at .0 ≤ farthestBit → OnByte (headerOf s r known .header) (headerOf s r known .next)
@@ -219,14 +219,14 @@ Stands a = (a .pending ≡ 0 → ⊥) → a .reader .at .0 % 8 ≡ 0
 attempt-stands : (s : List ℕ) → length s ≤ longestStream → (a : Audio) → a .reader .at .0 ≤ farthestBit → a .pending ≡ 0 → Stands (attemptOf s a .state)
 unfolding attemptOf
 attempt-stands s short a near none =
-    let t = headerOf s (a .reader) (a .format) in go (t .header) (t .next) (header-on-byte s short (a .reader) (a .format) near)
+    let t = headerOf s (a .reader) (a .format) in go _ (t .header) (t .next) (header-on-byte s short (a .reader) (a .format) near)
   where
-    go : (h : Header) (r : Reader) → OnByte h r → Stands (seeking a r h .state)
-    go (Accepted f n) r e = λ _. e
-    go (HeaderRefused n) r e = λ some. absurd (some none)
+    go : (k : ℕ) (h : Header) (r : Reader) → OnByte h r → Stands (seeking k a r h .state)
+    go k (Accepted f n) r e = λ _. e
+    go k (HeaderRefused n) r e = λ some. absurd (some none)
 
 module _ {s : List ℕ} {a : Audio} (w : Ranged a) (h : Stands a) where
-  heads-stand : {b : Audio} → length s ≤ longestStream → Heads s a b → Stands b
+  heads-stand : {k : ℕ} {b : Audio} → length s ≤ longestStream → Heads s a k b → Stands b
   heads-stand short (waits n) = h
   heads-stand short (accepts z e) = subst (λ (x : Asked). Stands (x .state)) e (attempt-stands s short a (w .near) z)
 
@@ -243,7 +243,7 @@ decode-stands s m o a w h = go (r .answer) refl
     r : Asked
     r = readyOf s (length m) (length o) a
 
-    go : (y : Heading) → r .answer ≡ y → Stands (answering s y (r .state) .state)
+    go : (y : Heading) → r .answer ≡ y → Stands (answering s (r .skipped) y (r .state) .state)
     go Known e = λ some. absurd (some refl)
     go (Refused n) e = verdict-stands w h (verdict-holds s (length m) (length o) a)
 
@@ -272,11 +272,12 @@ module _ {c : Call} (past : Past (c .state) (c .memory)) (ok : Accepts c) where
       verdict-stands w (since-opening past) (verdict-of c) (verdict-kept w (verdict-of c) .some (accepted-known c ok))
 
   -- and the byte in the frame's line is that one: "byte after header and check word"
-  pub listed-where-it-begins : (at : BytePos) × (bitOf at .0 ≡ firstBit c) × (let f = outcome c .state .format in
-      lineAt c ≡ Frame (c .state .frames) at (rateOf (f .samplerate)) (kbpsOf (f .bitrate)) (f .mode) (ok .bits) (ok .time))
+  pub listed-where-it-begins : (carried : ℕ) → (at : BytePos) × (bitOf at .0 ≡ firstBit c) × (let f = outcome c .state .format in
+      lineAt carried c
+      ≡ Frame (c .state .frames) at (rateOf (f .samplerate)) (kbpsOf (f .bitrate)) (f .mode) (ok .bits) (ok .time) (carried + outcome c .skipped))
   unfolding nextOf
-  listed-where-it-begins = (
+  listed-where-it-begins carried = (
     byteBefore (bytePosition (outcome c .state)) (ok .bits),
     omega (arith, aligned-after-the-bits ok, frame-on-a-byte),
-    ap (λ (x : Answer). lineBy (c .state .frames) x (outcome c .state)) (ok .answer),
+    ap (λ (x : Answer). lineBy (c .state .frames) (carried + outcome c .skipped) x (outcome c .state)) (ok .answer),
   )

@@ -81,7 +81,8 @@ pub record Demand2 : Type 0 where
       → 8 * byte + 48 ≤ 8 * length s → HeaderFields s byte → (known : Format) → Follows known s byte → AcceptedAt s r byte known
   -- .. and an accepted one, where its bits are there, is one of the standard's
   pub only-the-standards-headers : (s : List ℕ) (r : Reader) → length s ≤ longestStream → (known : Format) → r .at .0 ≤ farthestBit
-      → {f : Format} {size : ℕ} → headerOf s r known .header ≡ Accepted f size → StandardsHeader s r f size (headerOf s r known .next)
+      → {f : Format} {size : ℕ} → headerOf s r known .header ≡ Accepted f size
+      → StandardsHeader s r f size (headerOf s r known .sync .0) (headerOf s r known .next)
   -- "allocation, scale factors and sample codes are proved against a definition written from ISO/IEC 11172-3 Layer II;": every accepted
   -- frame is read as the standard lists it, over its tables with the listed entry replaced ..
   pub codes-are-the-standards : {c : Call} → Past (c .state) (c .memory) → Accepts c → ReadByItsFormat c

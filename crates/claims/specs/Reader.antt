@@ -11,7 +11,7 @@ use borrow.Author.Tests.{lt-ltb, le-ltb, ltb-true, ltb-false}
 use Rattle.ground.specs.First.{first-none}
 use Rattle.ground.specs.Tests.{by-test}
 use Rattle.buffer.specs.Bits.{bitsValue, pastOf, pairAt, stopOf, longestStream, farthestBit}
-use Rattle.buffer.specs.Calls.{gate, left, bytePosOf, aligned, readerAt, readOf, hasOf, endedOf, alignOf, skipOf, tellOf, skipBytesOf, searchOf}
+use Rattle.buffer.specs.Calls.{gate, left, bytePosOf, aligned, readerAt, byteAt, readOf, hasOf, endedOf, alignOf, skipOf, tellOf, skipBytesOf, searchOf}
 use Rattle.buffer.specs.Numbers.{readNumber, holdsNumber, movedNumber, skippedNumber, toldNumber, syncNumber}
 use Rattle.buffer.specs.declared.Reader.{Reader}
 use Rattle.buffer.specs.declared.Read.{Read}
@@ -121,7 +121,9 @@ module _ (s : List ℕ) (r : Reader) where
 
   pub search-table : let stop = stopOf s (r .at .0 / 8) in
       TableOf syncNumber (searchOf s r)
-      (Gated s r SyncRefused 0 (cond (ltb stop (length s - 1)) (Found (readerAt ((stop + 1) * 8 + 3))) (Missing (readerAt ((stop + 1) * 8)))))
+      (Gated s r SyncRefused 0
+      (cond (ltb stop (length s - 1)) (Found (byteAt stop) (stop - r .at .0 / 8) (readerAt ((stop + 1) * 8 + 3)))
+      (Missing (byteAt (length s)) (length s - r .at .0 / 8) (readerAt ((stop + 1) * 8)))))
   unfolding searchOf
   search-table =
       gate-table s r SyncRefused _ syncNumber (λ _. refl) 0
@@ -131,8 +133,8 @@ module _ (s : List ℕ) (r : Reader) where
 
 -- where a search leaves a reader
 abbrev pub searched : Reader → Sync → Reader
-searched r (Found next) = next
-searched r (Missing next) = next
+searched r (Found sync skipped next) = next
+searched r (Missing sync skipped next) = next
 searched r (SyncRefused n) = r
 
 unfoldable pub searchedAgain : List ℕ → Reader → ℕ → Reader
@@ -141,7 +143,7 @@ searchedAgain s r (suc k) = let q = searchedAgain s r k in searched q (searchOf 
 
 module _ (s : List ℕ) (short : length s ≤ longestStream) where
   -- from the last byte on, at byte i
-  one-byte-further : (i : ℕ) → length s ≤ i + 1 → i * 8 ≤ farthestBit → searchOf s (readerAt (i * 8)) ≡ Missing (readerAt ((i + 1) * 8))
+  one-byte-further : (i : ℕ) → length s ≤ i + 1 → i * 8 ≤ farthestBit → searchOf s (readerAt (i * 8)) ≡ Missing (byteAt (length s)) (length s - i) (readerAt ((i + 1) * 8))
   unfolding searchOf
   one-byte-further i late near =
       let from : i * 8 / 8 ≡ i = omega arith in

@@ -92,7 +92,7 @@ module _ {c d : Call} (agree : Agreeing c d) where
       ∙ sym (accepted-bits d (agree .accepts′))
 
 -- two calls before whose frames the same state stands agree, if their streams hold the same n bits there
-pub agree-on : (c d : Call) (b : Audio) → before c ≡ stands Known b → before d ≡ stands Known b
+pub agree-on : (c d : Call) {j k : ℕ} (b : Audio) → before c ≡ stands j Known b → before d ≡ stands k Known b
     → (extension n : ℕ) → b .format .bound ≡ boundBy (b .format .mode) extension → called (codesIn (b .format)) (c .stream) (b .reader) ≡ n
     → b .reader .at .0 + n ≤ 8 * length (c .stream) → b .reader .at .0 + n ≤ 8 * length (d .stream)
     → Agree (c .stream) (b .reader .at .0) (d .stream) (b .reader .at .0) n → Agreeing c d

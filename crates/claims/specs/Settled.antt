@@ -11,7 +11,7 @@ use native.Mathlib.Omega.{arith}
 use native.Mathlib.Decide.{ℕ-discrete}
 use lib.Ieee.{Float}
 use lib.ListN.{length}
-use Rattle.buffer.specs.Calls.{left}
+use Rattle.buffer.specs.Calls.{byteAfterOf, left}
 use Rattle.state.specs.State.{inRange}
 use Rattle.state.specs.StateLaws.{ranged}
 use Rattle.verdict.specs.Verdict.{tried, attemptOf}
@@ -28,15 +28,15 @@ use Rattle.ground.specs.Rows.{exactly}
 use Rattle.header.specs.Attempts.{one, attempt-number}
 use Rattle.header.specs.Moves.{few-bits-stay}
 use Rattle.header.specs.declared.Attempt.{Attempt}
-use Rattle.claims.specs.Numbers.{Lent, InOrder, waits, Decodes, eight, nine, ten, sought, seven, zero as frame, refused, decode-table, pending-within}
+use Rattle.claims.specs.Numbers.{Lent, InOrder, passed, waits, Decodes, eight, nine, ten, sought, seven, zero as frame, refused, decode-table, pending-within}
 use Rattle.past.specs.Moves.{call-moves}
 use Rattle.past.specs.Sound.{decode-stays-in-range}
 
 -- ---- 1 and 7 repeat
 
--- every call on the stream, whatever it is lent, gives this number and leaves this state
+-- every call on the stream, whatever it is lent, gives this number, passes no byte over and leaves this state
 abbrev pub Settled : List ℕ → ℕ → Audio → Type 0
-Settled s n a = (memory output : List Float) → Lent s memory output → decodeOf s memory output a ≡ refused n a
+Settled s n a = (memory output : List Float) → Lent s memory output → decodeOf s memory output a ≡ refused 0 n a
 
 -- and with other calls between: on this stream no call leaves another state, whatever it is lent
 pub record Rests (s : List ℕ) (n : ℕ) (a : Audio) : Type 0 where
@@ -73,11 +73,14 @@ module _ {s : List ℕ} {a : Audio} where
 module _ {s : List ℕ} {memory output : List Float} {a : Audio} where
   one-settles : {x : Decoded} → Decodes s memory output a 1 x → Rests s 1 (x .state)
   one-settles (sought c e (one l)) =
-      rests (λ m o lent. sym (decode-table s m o a .only (sought (record { room = lent; within = c .within }) e (one l)) .0)) (inr l)
+      let none : passed a (byteAfterOf (a .reader .at)) ≡ 0 = omega arith in
+      rests
+      (λ m o lent. sym (decode-table s m o a .only (sought (record { room = lent; within = c .within }) e (one l)) .0) ∙ ap (λ k. refused k 1 a) none)
+      (inr l)
 
   seven-settles : {x : Decoded} → Decodes s memory output a 7 x → Rests s 7 (x .state)
   seven-settles (sought c e t) = absurd (let n = attempt-number t in omega arith)
-  seven-settles (seven {b} c h l) =
+  seven-settles (seven {b = b} c h l) =
       let within = pending-within s memory output a c h in
       rests
       (λ m o lent. sym (decode-table s m o b .only (seven (record { room = lent; within = within }) (waits (λ e. omega arith)) l) .0))
@@ -167,15 +170,15 @@ module _ (s : List ℕ) (memory output : ℕ → List Float) (a : Audio) where
         ∙ ap (λ b. decodeOf s (memory (k + j)) (output (k + j)) b .state) (settled-state n k h j)
         ∙ ap (λ x. x .state) (h (memory (k + j)) (output (k + j)) (lent (k + j)))
 
-    settled-answer : (n k : ℕ) → Settled s n (stateAfter k) → (j : ℕ) → answerAt (k + j) ≡ refused n (stateAfter k)
+    settled-answer : (n k : ℕ) → Settled s n (stateAfter k) → (j : ℕ) → answerAt (k + j) ≡ refused 0 n (stateAfter k)
     settled-answer n k h j =
         ap (decodeOf s (memory (k + j)) (output (k + j))) (settled-state n k h j) ∙ h (memory (k + j)) (output (k + j)) (lent (k + j))
 
     -- after a 1 every call gives 1 and leaves the state, and so with 7
-    pub one-for-ever : (k : ℕ) → numberAt k ≡ 1 → (j : ℕ) → answerAt (suc k + j) ≡ refused 1 (stateAfter (suc k))
+    pub one-for-ever : (k : ℕ) → numberAt k ≡ 1 → (j : ℕ) → answerAt (suc k + j) ≡ refused 0 1 (stateAfter (suc k))
     one-for-ever k e = settled-answer 1 (suc k) (rests-at-one k e)
 
-    pub seven-for-ever : (k : ℕ) → numberAt k ≡ 7 → (j : ℕ) → answerAt (suc k + j) ≡ refused 7 (stateAfter (suc k))
+    pub seven-for-ever : (k : ℕ) → numberAt k ≡ 7 → (j : ℕ) → answerAt (suc k + j) ≡ refused 0 7 (stateAfter (suc k))
     seven-for-ever k e = settled-answer 7 (suc k) (rests-at-seven k e)
 
     module _ (within : inRange a ≡ true) where

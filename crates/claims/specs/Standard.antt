@@ -13,6 +13,7 @@ use lib.IntN.{ℤ}
 use lib.ListN.{length, getD}
 use Rattle.buffer.specs.Bits.{longestStream, farthestBit}
 use Rattle.buffer.specs.Calls.{readerAt}
+use Rattle.buffer.specs.declared.BytePos.{BytePos}
 use Rattle.buffer.specs.declared.Reader.{Reader}
 use Rattle.grammar.specs.Reads.{Ran, run}
 use Rattle.tables.specs.Standard.{stepsOf, limitOf, sblimit}
@@ -46,6 +47,7 @@ use Rattle.audio.specs.CallsLaws.{question-leaves, by-opening}
 use Rattle.past.specs.Pasts.{Past, opened, asked as has-asked, decoded, refused, relent}
 use Rattle.past.specs.Calls.{Call, outcome, frameState, before, granulesIn, endOf, Accepts, accepted-known, accepted-leaves, verdict-of}
 use Rattle.past.specs.Sound.{sound-state-in-range, sound, frame-has-extension}
+use Rattle.claims.specs.Numbers.{passed}
 
 -- ---- a frame by its header's mode, mode_extension, bitrate_index and sampling_frequency
 
@@ -140,18 +142,20 @@ record Headed (s : List ℕ) (a : Audio) : Type 0 where
   from : Reader
   known : Format
   near : from .at .0 ≤ farthestBit
-  is : headerOf s from known ≡ record { header = Accepted (a .format) (a .pending); next = a .reader }
+  sync : BytePos
+  is : headerOf s from known ≡ record { header = Accepted (a .format) (a .pending); sync = sync; next = a .reader }
 
 Pending : List ℕ → Audio → Type 0
 Pending s a = (a .pending ≡ 0 → ⊥) → Headed s a
 
 attempt-headed : (s : List ℕ) (a : Audio) → a .reader .at .0 ≤ farthestBit → a .pending ≡ 0 → Pending s (attemptOf s a .state)
 unfolding attemptOf Pending
-attempt-headed s a near none = let t = headerOf s (a .reader) (a .format) in go (t .header) (t .next) refl
+attempt-headed s a near none = let t = headerOf s (a .reader) (a .format) in go (t .sync) (t .header) (t .next) refl
   where
-    go : (h : Header) (r : Reader) → headerOf s (a .reader) (a .format) ≡ record { header = h; next = r } → Pending s (seeking a r h .state)
-    go (Accepted f n) r e = λ _. record { from = a .reader; known = a .format; near = near; is = e }
-    go (HeaderRefused n) r e = λ some. absurd (some none)
+    go : (b : BytePos) (h : Header) (r : Reader) → headerOf s (a .reader) (a .format) ≡ record { header = h; sync = b; next = r }
+        → Pending s (seeking (passed a b) a r h .state)
+    go b (Accepted f n) r e = λ _. record { from = a .reader; known = a .format; near = near; sync = b; is = e }
+    go b (HeaderRefused n) r e = λ some. absurd (some none)
 
 verdict-headed : {s : List ℕ} {m o : ℕ} {a : Audio} {x : Asked} → a .reader .at .0 ≤ farthestBit → Pending s a → Verdict s m o a x → Pending s (x .state)
 verdict-headed near p (at-once h) = p
@@ -165,7 +169,7 @@ decode-headed : (c : Call) → c .state .reader .at .0 ≤ farthestBit → Pendi
 unfolding decodeOf framedOf afterOf Pending
 decode-headed c near p = go (before c .answer) (verdict-headed near p (verdict-of c))
   where
-    go : (h : Heading) → Pending (c .stream) (frameState c) → Pending (c .stream) (answering (c .stream) h (frameState c) .state)
+    go : (h : Heading) → Pending (c .stream) (frameState c) → Pending (c .stream) (answering (c .stream) (before c .skipped) h (frameState c) .state)
     go Known w = λ some. absurd (some refl)
     go (Refused n) w = w
 
@@ -213,15 +217,16 @@ accepted-frames-are-the-standards {c} past one ok =
     let x = an-accepted-header s (h .from) (ready .short) (h .known) (h .near) (ap (λ (t : Attempt). t .header) (h .is)) in
     let next : headerOf s (h .from) (h .known) .next ≡ frameState c .reader = ap (λ (t : Attempt). t .next) (h .is) in
     let large = k .ranged .large some in
-    let there : 8 * x .byte + 48 ≤ 8 * length s = x .whole (rw next (omega (arith, ready .there))) in
+    let byte = headerOf s (h .from) (h .known) .sync .0 in
+    let there : 8 * byte + 48 ≤ 8 * length s = x .whole (rw next (omega (arith, ready .there))) in
     let begins = sym next ∙ x .data-bit there in
     let says = x .says (omega arith) in
-    let at : frameState c .reader .at .0 ≡ dataBit s (x .byte) = ap (λ (r : Reader). r .at .0) begins in
+    let at : frameState c .reader .at .0 ≡ dataBit s byte = ap (λ (r : Reader). r .at .0) begins in
     record {
-      byte = x .byte;
+      byte = byte;
       inside = omega (arith, ready .there, says .size);
       fields = x .fields (omega arith);
       says = says;
       begins = begins;
-      reads = rw (← begins) (reads-by-header s (x .byte) (frameState c .format) (frameState c .pending) says s (frameState c .reader));
+      reads = rw (← begins) (reads-by-header s byte (frameState c .format) (frameState c .pending) says s (frameState c .reader));
     }

@@ -28,17 +28,17 @@ use Rattle.past.specs.Calls.{Call, newMemory, newOutput, before, before-keeps, 
 
 -- every number but a decoded frame's 0 leaves memory and output as they were
 module _ (s : List ℕ) (memory output : List Float) (a : Audio) where
-  by-verdict : (h : Heading) (b : Audio) (n : ℕ) → answering s h b .answer ≡ AnswerRefused n
+  by-verdict : (k : ℕ) (h : Heading) (b : Audio) (n : ℕ) → answering s k h b .answer ≡ AnswerRefused n
       → (remembering s memory h b ≡ memory) × (sounding s memory output h b ≡ output)
   unfolding framedOf afterOf
-  by-verdict Known b n e = absurd (let z : _≡_ {A = ℕ} 0 1 = cc in omega arith)
-  by-verdict (Refused k) b n e = (refl, refl)
+  by-verdict k Known b n e = absurd (let z : _≡_ {A = ℕ} 0 1 = cc in omega arith)
+  by-verdict k (Refused m) b n e = (refl, refl)
 
   pub refused-call-leaves-all : (n : ℕ) → decodeOf s memory output a .answer ≡ AnswerRefused n
       → (decodeMemory s memory output a ≡ memory) × (decodeOutput s memory output a ≡ output)
   unfolding decodeOf decodeMemory decodeOutput
   refused-call-leaves-all n e =
-      let r = readyOf s (length memory) (length output) a in by-verdict (r .answer) (r .state) n e
+      let r = readyOf s (length memory) (length output) a in by-verdict (r .skipped) (r .answer) (r .state) n e
 
 -- "Longer ones are allowed; the rest of them stays untouched", whatever the call's answer
 pub the-rest-stays : (c : Call) (i : ℕ) → (getD (newMemory c) (memoryLength + i) nan ≡ getD (c .memory) (memoryLength + i) nan)

@@ -31,8 +31,8 @@ frame-rate s memory output a x time bits e h = rw e (go (before .answer) refl (a
     before : Asked
     before = readyOf s (length memory) (length output) a
 
-    go : (known : Heading) → before .answer ≡ known → answering s known (before .state) .answer ≡ Frame time bits
-        → answering s known (before .state) .state .format .samplerate < 4
+    go : (known : Heading) → before .answer ≡ known → answering s (before .skipped) known (before .state) .answer ≡ Frame time bits
+        → answering s (before .skipped) known (before .state) .state .format .samplerate < 4
     go Known k f = let l = goes s (length memory) (length output) a before refl k .ready .fit .samplerate in omega arith
     go (HeadingRefused n) k f = absurd (let z : _≡_ {A = ℕ} 0 1 = cc in omega arith)
 

@@ -3,10 +3,9 @@
 use Prim.Native.Nat.{ℕ, zero, suc, _+_, _/_}
 use mathlib.Core.Bool.{Bool, true, false, cond}
 use mathlib.Core.List.{List, [], _∷_}
-use lib.IntN.{pos}
-use lib.Ieee.{Float, fin}
-use lib.ListN.{length, replicate}
-use Rattle.synthesis.specs.Slots.{memoryLength, outputLength}
+use lib.Ieee.{Float}
+use lib.ListN.{length}
+use Rattle.synthesis.specs.Slots.{memoryLength, outputLength, quiet}
 use Rattle.header.specs.Readings.{plain}
 use Rattle.tables.specs.Standard.{rateOf}
 use Rattle.audio.specs.Calls.{openOf, openMemory, decodeOf, decodeMemory, decodeOutput}
@@ -36,10 +35,6 @@ heardOf (suc calls) s memory output a =
     let m = decodeMemory s memory output a in
     let o = decodeOutput s memory output a in
     hearing (x .answer) (x .state) o (heardOf calls s m o (x .state))
-
--- +0.0, n times
-abbrev pub quiet : ℕ → List Float
-quiet n = replicate n (fin false 0 (pos 0))
 
 -- from a fresh opening; on n bytes call n/2 + 2 and all later ones give 1 or 7 (claims, `settles`)
 abbrev pub openedOf : List ℕ → List Float → Playing

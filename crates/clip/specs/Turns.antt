@@ -11,13 +11,13 @@ use lib.ListN.{length, drop, getD, length-drop}
 use lib.Seq.{drop-cons}
 use borrow.Author.Tests.{lt-ltb, le-ltb}
 use Rattle.ground.specs.Tests.{by-test}
-use Rattle.synthesis.specs.Slots.{memoryLength, outputLength}
+use Rattle.synthesis.specs.Slots.{memoryLength, outputLength, quiet}
 use Rattle.audio.specs.Calls.{openMemory, decodeOf}
 use Rattle.audio.specs.Numbers.{ends}
 use Rattle.state.specs.declared.Audio.{Audio}
 use Rattle.audio.specs.declared.Answer.{Answer}
 use Rattle.audio.specs.declared.Answer.the-variants.{Frame, Refused}
-use Rattle.clip.specs.Frames.{Heard, hearing, heardOf, quiet, openedOf, clipOf, Turn, turn, turning, turnOf}
+use Rattle.clip.specs.Frames.{Heard, hearing, heardOf, openedOf, clipOf, Turn, turn, turning, turnOf}
 use Rattle.clip.specs.declared.Playing.{Playing}
 use Rattle.clip.specs.declared.Reached.{Reached}
 

@@ -6,6 +6,7 @@ use mathlib.Core.Bool.{Bool, true, false, cond}
 use native.Mathlib.Decide.{ℕ-discrete}
 use native.Mathlib.Omega.{arith}
 use lib.Dec.{T}
+use Rattle.ground.specs.Rows.{is-false}
 use Rattle.ground.specs.Tests.{by-test}
 
 -- the first of the k places from i at which a test holds, or else i + k
@@ -59,7 +60,13 @@ first-before p (suc k) i j l m t =
     above e (yes q) = absurd (subst T (sym t ∙ ap p (sym q) ∙ e) tt)
     above e (no q) = omega arith
 
--- .. and there, where it holds at none before
+-- .. so the test fails at each place that was passed ..
+pub first-passes : (p : ℕ → Bool) (k i j : ℕ) → i ≤ j → j < firstFrom p k i → p j ≡ false
+first-passes p k i j l m =
+    let within = first-within p k i in
+    is-false (p j) (λ t. absurd (let before = first-before p k i j l (omega arith) t in omega arith))
+
+-- .. and it stops there, where it holds at none before
 pub first-is : (p : ℕ → Bool) (k i j : ℕ) → i ≤ j → j < i + k → p j ≡ true → ((m : ℕ) → i ≤ m → m < j → p m ≡ false) → firstFrom p k i ≡ j
 first-is p k i j l m t none = go (ℕ-discrete (firstFrom p k i) j)
   where

@@ -171,8 +171,8 @@ unfolding fieldsOf
 fields-good known = always-bind (λ _. Unit) (GoodHeader known) identOf _ any-ident (λ i _. ident-good known i)
 
 start-good : (s : List ℕ) (known : Format) (x : Start) → GoodHeader known (byStart s known x .header)
-start-good s known (At r) = always-run (GoodHeader known) (fieldsOf known) s r (fields-good known)
-start-good s known (StartRefused n r) = tt
+start-good s known (At sync r) = always-run (GoodHeader known) (fieldsOf known) s r (fields-good known)
+start-good s known (StartRefused n sync r) = tt
 
 pub header-good : (s : List ℕ) (r : Reader) (known : Format) → GoodHeader known (headerOf s r known .header)
 unfolding headerOf

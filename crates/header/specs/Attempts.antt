@@ -1,5 +1,5 @@
 -- One header attempt by 01's table: the numbers 1 to 6 and 0, each given exactly when, in the order in which the header is read,
--- and the place where reading goes on. From 01, "Numbers a call can give" and "From the bytes to a header". Assumes nothing.
+-- the place where reading goes on, and the byte of the sync's FF. From 01, "Numbers a call can give" and "From the bytes to a header". Assumes nothing.
 use Prim.Native.Nat.{ℕ, _+_, _-_, _*_, _/_, _≤_, _<_}
 use mathlib.Core.Path.{_≡_, refl, sym, ap, subst, _∙_}
 use mathlib.Core.Bool.{Bool, true, false, cond, _&&_, _||_}
@@ -13,13 +13,14 @@ use borrow.Author.Tests.{lt-ltb, le-ltb, eq-eqb, ne-eqb, eqb-true, eqb-false, lt
 use Rattle.ground.specs.Tests.{by-test, both, neither, either}
 use Rattle.ground.specs.First.{first-within}
 use Rattle.buffer.specs.Bits.{longestStream, farthestBit, otherAt, pairAt, pastOf, stopOf}
-use Rattle.buffer.specs.Calls.{readerAt, left, fieldOf, hasOf, skipBytesOf, searchOf}
+use Rattle.buffer.specs.Calls.{readerAt, byteAt, byteAfterOf, left, fieldOf, hasOf, skipBytesOf, searchOf}
 use Rattle.buffer.specs.Laws.{field-moves}
 use Rattle.buffer.specs.PairLaws.{no-pair-found}
+use Rattle.buffer.specs.declared.BytePos.{BytePos}
 use Rattle.buffer.specs.declared.Reader.{Reader}
 use Rattle.buffer.specs.declared.Field.{Field}
 use Rattle.grammar.specs.Reads.{Reads, done, _>>=_, Ran, ran, run}
-use Rattle.header.specs.Header.{boundBy, sizeOf, differs, bySearch, seekOf, syncOf, startOf, identOf, byIdent, ratesOf, byRates, modeOf, checkOf, boundOf, restOf, fieldsOf, attempt, byStart, headerOf, headerNumber}
+use Rattle.header.specs.Header.{boundBy, sizeOf, differs, bySearch, seekOf, syncOf, startOf, identOf, byIdent, ratesOf, byRates, modeOf, checkOf, boundOf, restOf, fieldsOf, attempt, refusal, byStart, headerOf, headerNumber}
 use Rattle.header.specs.Accepted.{SameFormat, same-format}
 use Rattle.header.specs.declared.Ident.{Ident}
 use Rattle.header.specs.declared.Rates.{Rates}
@@ -37,8 +38,11 @@ use Rattle.header.specs.Moves.{few-bits-stay}
 
 module _ (s : List ℕ) (r : Reader) where
   -- "it aligns, passes zero bytes, and reads 11 bits"
+  abbrev pub past : ℕ
+  past = pastOf s 0 ((r .at .0 + 7) / 8)
+
   abbrev pub elevenBits : Field
-  elevenBits = fieldOf s (readerAt (pastOf s 0 ((r .at .0 + 7) / 8) * 8)) 11
+  elevenBits = fieldOf s (readerAt (past * 8)) 11
 
   -- "if they are not all ones, the search starts at the byte holding the reading position"
   abbrev pub from : ℕ
@@ -51,10 +55,11 @@ module _ (s : List ℕ) (r : Reader) where
   abbrev pub NoPair : Type 0
   NoPair = (j : ℕ) → from ≤ j → j + 1 < length s → pairAt s j ≡ false
 
--- found at once, or by the search: the place after it
-pub data Synced (s : List ℕ) (r : Reader) : Reader → Type 0 where
-  in-place : elevenBits s r .value ≡ 2047 → Synced s r (elevenBits s r .next)
-  searched : (elevenBits s r .value ≡ 2047 → ⊥) → stop s r < length s - 1 → Synced s r (readerAt ((stop s r + 1) * 8 + 3))
+-- found at once, or by the search: the byte of its FF, and the place after it
+pub data Synced (s : List ℕ) (r : Reader) : BytePos → Reader → Type 0 where
+  in-place : elevenBits s r .value ≡ 2047 → Synced s r (byteAt (past s r)) (elevenBits s r .next)
+  searched : (elevenBits s r .value ≡ 2047 → ⊥) → stop s r < length s - 1
+      → Synced s r (byteAt (stop s r)) (readerAt ((stop s r + 1) * 8 + 3))
 
 -- ---- the fields after it, from place q on, each where the one before it ends
 
@@ -117,32 +122,31 @@ module _ (s : List ℕ) (q : Reader) where
   abbrev pub dataSize : ℕ
   dataSize = sizeOf (bitrate .value - 1) (samplerate .value) (padding .value) checked
 
-abbrev pub refusal : ℕ → Reader → Attempt
-refusal n r = record { header = Refused n; next = r }
-
 -- ---- the table
 
 pub data Attempts (s : List ℕ) (r : Reader) (known : Format) : ℕ → Attempt → Type 0 where
   -- "fewer than 48 bits remain"
-  one : left s r < 48 → Attempts s r known 1 (refusal 1 r)
+  one : left s r < 48 → Attempts s r known 1 (refusal 1 (byteAfterOf (r .at)) r)
   -- "header sought, no sync found"
-  two : 48 ≤ left s r → (elevenBits s r .value ≡ 2047 → ⊥) → NoPair s r → Attempts s r known 2 (refusal 2 (readerAt ((stop s r + 1) * 8)))
+  two : 48 ≤ left s r → (elevenBits s r .value ≡ 2047 → ⊥) → NoPair s r
+      → Attempts s r known 2 (refusal 2 (byteAt (length s)) (readerAt ((stop s r + 1) * 8)))
   -- "version not 3, or layer not 2"
-  three : {q : Reader} → 48 ≤ left s r → Synced s r q → (Identified s q → ⊥) → Attempts s r known 3 (refusal 3 (protection s q .next))
+  three : {b : BytePos} {q : Reader} → 48 ≤ left s r → Synced s r b q → (Identified s q → ⊥)
+      → Attempts s r known 3 (refusal 3 b (protection s q .next))
   -- "bit-rate field 0 or 15"
-  four : {q : Reader} → 48 ≤ left s r → Synced s r q → Identified s q → (bitrate s q .value ≡ 0) ⊎ (bitrate s q .value ≡ 15)
-      → Attempts s r known 4 (refusal 4 (bitrate s q .next))
+  four : {b : BytePos} {q : Reader} → 48 ≤ left s r → Synced s r b q → Identified s q → (bitrate s q .value ≡ 0) ⊎ (bitrate s q .value ≡ 15)
+      → Attempts s r known 4 (refusal 4 b (bitrate s q .next))
   -- "sample-rate field 3"
-  five : {q : Reader} → 48 ≤ left s r → Synced s r q → BitrateGiven s q → samplerate s q .value ≡ 3
-      → Attempts s r known 5 (refusal 5 (samplerate s q .next))
+  five : {b : BytePos} {q : Reader} → 48 ≤ left s r → Synced s r b q → BitrateGiven s q → samplerate s q .value ≡ 3
+      → Attempts s r known 5 (refusal 5 b (samplerate s q .next))
   -- "a header was accepted earlier, and bit rate, sample rate or mode differs"
-  six : {q : Reader} → 48 ≤ left s r → Synced s r q → BitrateGiven s q → (samplerate s q .value ≡ 3 → ⊥)
+  six : {b : BytePos} {q : Reader} → 48 ≤ left s r → Synced s r b q → BitrateGiven s q → (samplerate s q .value ≡ 3 → ⊥)
       → (known .samplerate ≡ 3 → ⊥) → (SameFormat known (formatBy s q (known .reading)) → ⊥)
-      → Attempts s r known 6 (refusal 6 (mode s q .next))
+      → Attempts s r known 6 (refusal 6 b (mode s q .next))
   -- "header accepted"
-  zero : {q : Reader} → 48 ≤ left s r → Synced s r q → BitrateGiven s q → (samplerate s q .value ≡ 3 → ⊥)
+  zero : {b : BytePos} {q : Reader} → 48 ≤ left s r → Synced s r b q → BitrateGiven s q → (samplerate s q .value ≡ 3 → ⊥)
       → ((known .samplerate ≡ 3 → ⊥) → SameFormat known (formatBy s q (known .reading)))
-      → Attempts s r known 0 (record { header = Accepted (formatBy s q (known .reading)) (dataSize s q); next = afterCheck s q })
+      → Attempts s r known 0 (record { header = Accepted (formatBy s q (known .reading)) (dataSize s q); sync = b; next = afterCheck s q })
 
 -- ---- the course of the fields: one choice after the other
 
@@ -216,16 +220,20 @@ module _ (s : List ℕ) (r : Reader) (short : length s ≤ longestStream) (near 
         omega arith
 
     seek-course : seekOf s (elevenBits s r .next)
-        ≡ cond (ltb (stop s r) (length s - 1)) (At (readerAt ((stop s r + 1) * 8 + 3))) (StartRefused 2 (readerAt ((stop s r + 1) * 8)))
+        ≡ cond (ltb (stop s r) (length s - 1)) (At (byteAt (stop s r)) (readerAt ((stop s r + 1) * 8 + 3)))
+        (StartRefused 2 (byteAt (length s)) (readerAt ((stop s r + 1) * 8)))
     unfolding seekOf searchOf
     seek-course =
         simp (le-ltb _ _ short, le-ltb _ _ eleven-near) (push (bySearch (elevenBits s r .next)) (ltb (stop s r) (length s - 1)) _ _)
 
-    start-course : startOf s r ≡ cond (eqb (elevenBits s r .value) 2047) (At (elevenBits s r .next)) (seekOf s (elevenBits s r .next))
+    start-course : startOf s r
+        ≡ cond (eqb (elevenBits s r .value) 2047) (At (byteAt (past s r)) (elevenBits s r .next)) (seekOf s (elevenBits s r .next))
     unfolding startOf hasOf skipBytesOf syncOf
-    start-course = simp (le-ltb _ _ short, le-ltb _ _ near, le-ltb _ _ room)
+    start-course =
+        let whole : past s r * 8 / 8 ≡ past s r = omega arith in
+        simp (le-ltb _ _ short, le-ltb _ _ near, le-ltb _ _ room, whole)
 
-    synced : {q : Reader} → Synced s r q → startOf s r ≡ At q
+    synced : {b : BytePos} {q : Reader} → Synced s r b q → startOf s r ≡ At b q
     synced (in-place e) = start-course ∙ simp (eq-eqb _ _ e)
     synced (searched n l) = start-course ∙ simp (ne-eqb _ _ n) (seek-course ∙ simp (lt-ltb _ _ l))
 
@@ -235,15 +243,15 @@ module _ (s : List ℕ) (r : Reader) (short : length s ≤ longestStream) (near 
     Stands : Attempt → Type 0
     Stands x = Attempts s r known (headerNumber (x .header)) x
 
-    fields-stand : {q : Reader} → 48 ≤ left s r → Synced s r q → Stands (attempt (run (fieldsOf known) s q))
+    fields-stand : {b : BytePos} {q : Reader} → 48 ≤ left s r → Synced s r b q → Stands (attempt b (run (fieldsOf known) s q))
     unfolding Stands
-    fields-stand {q} room y =
+    fields-stand {b} {q} room y =
         rw (fields-course s q known)
         (by-test S (isLayerII s q known) _ _ (λ i. rated (is-layer s q known i))
         (λ i. three room y (λ l. never (rw (eq-eqb _ _ (l .version-3), eq-eqb _ _ (l .layer-2))) i)))
       where
         S : Ran Header → Type 0
-        S x = Stands (attempt x)
+        S x = Stands (attempt b x)
 
         rated : Identified s q → S (run (ratesOf >>= byRates known (checked s q)) s (protection s q .next))
         rated l =
@@ -272,40 +280,40 @@ module _ (s : List ℕ) (r : Reader) (short : length s ≤ longestStream) (near 
             (λ l. two room (eqb-false _ _ o) (no-pair-found s (from s r) .0 (ltb-false _ _ l)))))
 
     -- where the sync is found, the attempt is what the fields say
-    after-sync : {q : Reader} → 48 ≤ left s r → Synced s r q → headerOf s r known ≡ attempt (run (fieldsOf known) s q)
+    after-sync : {b : BytePos} {q : Reader} → 48 ≤ left s r → Synced s r b q → headerOf s r known ≡ attempt b (run (fieldsOf known) s q)
     unfolding headerOf
     after-sync room y = ap (byStart s known) (synced room y)
 
     unsynced : 48 ≤ left s r → (elevenBits s r .value ≡ 2047 → ⊥) → length s - 1 ≤ stop s r
-        → headerOf s r known ≡ refusal 2 (readerAt ((stop s r + 1) * 8))
+        → headerOf s r known ≡ refusal 2 (byteAt (length s)) (readerAt ((stop s r + 1) * 8))
     unfolding headerOf
     unsynced room o l = rw (start-course room, seek-course room, ne-eqb _ _ o, le-ltb _ _ l)
 
-    layer-course : {q : Reader} → 48 ≤ left s r → Synced s r q → Identified s q
-        → headerOf s r known ≡ attempt (run (ratesOf >>= byRates known (checked s q)) s (protection s q .next))
-    layer-course {q} room y l =
-        after-sync room y ∙ ap attempt (fields-course s q known ∙ simp (eq-eqb _ _ (l .version-3), eq-eqb _ _ (l .layer-2)))
+    layer-course : {b : BytePos} {q : Reader} → 48 ≤ left s r → Synced s r b q → Identified s q
+        → headerOf s r known ≡ attempt b (run (ratesOf >>= byRates known (checked s q)) s (protection s q .next))
+    layer-course {b} {q} room y l =
+        after-sync room y ∙ ap (attempt b) (fields-course s q known ∙ simp (eq-eqb _ _ (l .version-3), eq-eqb _ _ (l .layer-2)))
 
-    rated-course : {q : Reader} → 48 ≤ left s r → Synced s r q → BitrateGiven s q
+    rated-course : {b : BytePos} {q : Reader} → 48 ≤ left s r → Synced s r b q → BitrateGiven s q
         → headerOf s r known
-        ≡ attempt
+        ≡ attempt b
         (cond (eqb (samplerate s q .value) 3) (ran (Refused 5) (samplerate s q .next))
         (cond (other s q known) (ran (Refused 6) (mode s q .next)) (ran (Accepted (formatBy s q (known .reading)) (dataSize s q)) (afterCheck s q))))
-    rated-course {q} room y u =
+    rated-course {b} {q} room y u =
         layer-course room y (u .ident)
-        ∙ ap attempt
+        ∙ ap (attempt b)
         (rates-course s q known ∙ simp (ne-eqb _ _ (u .not-free), ne-eqb _ _ (u .not-forbidden), rest-course s q known))
 
     attempt-only : {n : ℕ} {x : Attempt} → Attempts s r known n x → (x ≡ headerOf s r known) × (headerNumber (x .header) ≡ n)
     attempt-only (one l) = (rw (few-bits-stay s r known short near l), refl)
     attempt-only (two room o f) = (rw (unsynced room o (no-pair-found s (from s r) .1 f)), refl)
-    attempt-only (three {q} room y n) = (rw (after-sync room y, fields-course s q known, not-layer s q known n), refl)
-    attempt-only (four {q} room y l b) = (rw (layer-course room y l, rates-course s q known, no-bitrate s q known b), refl)
-    attempt-only (five {q} room y u f) = (rw (rated-course room y u, eq-eqb _ _ f), refl)
-    attempt-only (six {q} room y u f known-one differ) =
+    attempt-only (three {q = q} room y n) = (rw (after-sync room y, fields-course s q known, not-layer s q known n), refl)
+    attempt-only (four {q = q} room y l b) = (rw (layer-course room y l, rates-course s q known, no-bitrate s q known b), refl)
+    attempt-only (five {q = q} room y u f) = (rw (rated-course room y u, eq-eqb _ _ f), refl)
+    attempt-only (six {q = q} room y u f known-one differ) =
         let d = is-true (other s q known) (λ d. differ (same-format known (formatBy s q (known .reading)) d known-one)) in
         (rw (rated-course room y u, ne-eqb _ _ f, d), refl)
-    attempt-only (zero {q} room y u f same) =
+    attempt-only (zero {q = q} room y u f same) =
         let d = is-false (other s q known) (λ d. other-is-not-same s q known d (same (other-is-known s q known d))) in
         (rw (rated-course room y u, ne-eqb _ _ f, d), refl)
 

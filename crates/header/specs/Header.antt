@@ -5,7 +5,8 @@ use Prim.Native.Nat.{ℕ, _+_, _-_, _*_, _/_}
 use mathlib.Core.Bool.{Bool, cond, not, _&&_, _||_}
 use mathlib.Core.List.{List}
 use lib.Dec.{eqb}
-use Rattle.buffer.specs.Calls.{fieldOf, hasOf, skipBytesOf, searchOf}
+use Rattle.buffer.specs.Calls.{bytePosOf, byteAfterOf, fieldOf, hasOf, skipBytesOf, searchOf}
+use Rattle.buffer.specs.declared.BytePos.{BytePos}
 use Rattle.buffer.specs.declared.Reader.{Reader}
 use Rattle.buffer.specs.declared.Holds.{Holds}
 use Rattle.buffer.specs.declared.Holds.the-variants.{Yes, No, Refused as HoldsRefused}
@@ -28,29 +29,34 @@ use Rattle.header.specs.declared.Start.the-variants.{At, Refused as Star
 
 -- ---- the sync
 
--- a pair found; none, which is 2; what the reader refuses is handed on
+-- where nothing was sought: the byte that starts at the position or after it
+abbrev pub unsoughtOf : ℕ → Reader → Start
+unsoughtOf n r = StartRefused n (byteAfterOf (r .at)) r
+
+-- a pair found; none, which is 2; what the reader refuses is handed on. Beside each the byte of the FF, or the length if there is none
 abbrev pub bySearch : Reader → Sync → Start
-bySearch r (Found next) = At next
-bySearch r (Missing next) = StartRefused 2 next
-bySearch r (SyncRefused n) = StartRefused n r
+bySearch r (Found sync skipped next) = At sync next
+bySearch r (Missing sync skipped next) = StartRefused 2 sync next
+bySearch r (SyncRefused n) = unsoughtOf n r
 
 unfoldable pub seekOf : List ℕ → Reader → Start
 seekOf s r = bySearch r (searchOf s r)
 
 -- "reads 11 bits. If they are not all ones, the search starts at the byte holding the reading position"
 unfoldable pub syncOf : List ℕ → Reader → Start
-syncOf s r = cond (eqb (fieldOf s r 11 .value) 2047) (At (fieldOf s r 11 .next)) (seekOf s (fieldOf s r 11 .next))
+syncOf s r =
+    cond (eqb (fieldOf s r 11 .value) 2047) (At (bytePosOf (r .at)) (fieldOf s r 11 .next)) (seekOf s (fieldOf s r 11 .next))
 
 -- "it aligns, passes zero bytes"
 abbrev pub bySkip : List ℕ → Reader → Skipped → Start
-bySkip s r (Bytes n begin) = syncOf s begin
-bySkip s r (SkippedRefused n) = StartRefused n r
+bySkip s r (Bytes n next) = syncOf s next
+bySkip s r (SkippedRefused n) = unsoughtOf n r
 
 -- "a header attempt needs 48 bits": else 1
 abbrev pub byHas : List ℕ → Reader → Holds → Start
 byHas s r Yes = bySkip s r (skipBytesOf s r 0)
-byHas s r No = StartRefused 1 r
-byHas s r (HoldsRefused n) = StartRefused n r
+byHas s r No = unsoughtOf 1 r
+byHas s r (HoldsRefused n) = unsoughtOf n r
 
 unfoldable pub startOf : List ℕ → Reader → Start
 startOf s r = byHas s r (hasOf s r 48)
@@ -124,15 +130,22 @@ fieldsOf known = identOf >>= byIdent known
 
 -- ---- the attempt
 
-abbrev pub attempt : Ran Header → Attempt
-attempt x = record { header = x .value; next = x .next }
+abbrev pub attempt : BytePos → Ran Header → Attempt
+attempt sync x = record { header = x .value; sync = sync; next = x .next }
+
+abbrev pub refusal : ℕ → BytePos → Reader → Attempt
+refusal n sync r = record { header = Refused n; sync = sync; next = r }
 
 abbrev pub byStart : List ℕ → Format → Start → Attempt
-byStart s known (At r) = attempt (run (fieldsOf known) s r)
-byStart s known (StartRefused n r) = record { header = Refused n; next = r }
+byStart s known (At sync r) = attempt sync (run (fieldsOf known) s r)
+byStart s known (StartRefused n sync r) = refusal n sync r
 
 unfoldable pub headerOf : List ℕ → Reader → Format → Attempt
 headerOf s r known = byStart s known (startOf s r)
+
+-- 02, E2: "the header attempt [reports the bytes] from its aligned start, to the FF of the sync, or to the stream's end if there is none"
+abbrev pub passedBy : Reader → Attempt → ℕ
+passedBy r t = t .sync .0 - byteAfterOf (r .at) .0
 
 -- 01's number of an attempt
 abbrev pub headerNumber : Header → ℕ

@@ -4,3 +4,4 @@ pub mod Accepted
 pub mod Moves
 pub mod Rows
 pub mod Attempts
+pub mod Passed

@@ -10,22 +10,21 @@ use borrow.Author.Tests.{lt-ltb, le-ltb, eqb-true, ltb-true, ltb-false}
 use Rattle.ground.specs.Tests.{by-test}
 use Rattle.ground.specs.First.{first-within}
 use Rattle.buffer.specs.Bits.{longestStream, farthestBit, otherAt, pairAt, pastOf, stopOf}
-use Rattle.buffer.specs.Calls.{aligned, readerAt, left, fieldOf, hasOf, skipBytesOf, searchOf}
+use Rattle.buffer.specs.Calls.{aligned, byteAfterOf, readerAt, left, fieldOf, hasOf, skipBytesOf, searchOf}
 use Rattle.buffer.specs.Laws.{Enough, field-read, field-moves}
 use Rattle.buffer.specs.declared.Reader.{Reader}
 use Rattle.grammar.specs.Reads.{run, called}
 use Rattle.grammar.specs.Run.{run-bind}
 use Rattle.grammar.specs.Widths.{Narrow, exact, run-moves}
 use Rattle.header.specs.declared.Format.{Format}
-use Rattle.header.specs.declared.Header.the-variants.{Refused}
 use Rattle.header.specs.declared.Start.{Start}
 use Rattle.header.specs.declared.Start.the-variants.{At, Refused as StartRefused}
-use Rattle.header.specs.Header.{identOf, byIdent, fieldsOf, bySearch, seekOf, syncOf, startOf, byStart, headerOf}
+use Rattle.header.specs.Header.{identOf, byIdent, fieldsOf, bySearch, seekOf, syncOf, startOf, refusal, byStart, headerOf}
 
 -- a place from b on at which the 5 bits after the 11 ones are there; or a refusal at least 16 bits on, at most 8 past the end
 abbrev Begun : List ℕ → ℕ → Start → Type 0
-Begun s b (At q) = (b + 11 ≤ q .at .0) × (q .at .0 + 5 ≤ 8 * length s)
-Begun s b (StartRefused n q) = (b + 16 ≤ q .at .0) × (q .at .0 ≤ 8 * length s + 8)
+Begun s b (At sync q) = (b + 11 ≤ q .at .0) × (q .at .0 + 5 ≤ 8 * length s)
+Begun s b (StartRefused n sync q) = (b + 16 ≤ q .at .0) × (q .at .0 ≤ 8 * length s + 8)
 
 -- the search, from a place of the stream at or after byte `from`, whose bit lies 41 bits or more before the end
 module _ (s : List ℕ) (short : length s ≤ longestStream) (from : ℕ) (room : from * 8 + 41 ≤ 8 * length s) where
@@ -75,10 +74,10 @@ fields-move s known r h =
 
 begun-moves : (s : List ℕ) (known : Format) (b : ℕ) (x : Start) → length s ≤ longestStream → Begun s b x
     → (b + 16 ≤ byStart s known x .next .at .0) × (byStart s known x .next .at .0 ≤ 8 * length s + 8)
-begun-moves s known b (At q) short h =
+begun-moves s known b (At sync q) short h =
     let m = fields-move s known q (record { short = short; near = omega arith; enough = omega arith }) in
     (omega arith, omega arith)
-begun-moves s known b (StartRefused n q) short h = h
+begun-moves s known b (StartRefused n sync q) short h = h
 
 pub attempt-moves : (s : List ℕ) (r : Reader) (known : Format) → Enough s r 48
     → (aligned r .at .0 + 16 ≤ headerOf s r known .next .at .0) × (headerOf s r known .next .at .0 ≤ 8 * length s + 8)
@@ -87,6 +86,6 @@ attempt-moves s r known h = begun-moves s known (aligned r .at .0) (startOf s r)
 
 -- with fewer than 48 bits left it stays
 pub few-bits-stay : (s : List ℕ) (r : Reader) (known : Format) → length s ≤ longestStream → r .at .0 ≤ farthestBit → left s r < 48
-    → headerOf s r known ≡ record { header = Refused 1; next = r }
+    → headerOf s r known ≡ refusal 1 (byteAfterOf (r .at)) r
 unfolding headerOf startOf hasOf
 few-bits-stay s r known short near few = simp (le-ltb _ _ short, le-ltb _ _ near, lt-ltb _ _ few)

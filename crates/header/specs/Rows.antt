@@ -1,19 +1,20 @@
--- A header's numbers, computed: 01's rows 2 to 5, the data sizes of headers at the start of a stream; every bound; every data size.
+-- A header's numbers, computed: 01's rows 2 to 5, the data sizes of headers at the start of a stream; every bound; every data
+-- size; and what is passed over.
 -- Assumes nothing.
 use Prim.Native.Nat.{ℕ}
 use mathlib.Core.Path.{_≡_, refl}
 use mathlib.Core.Bool.{false}
-use mathlib.Core.List.{_∷_, [], _++_, map}
+use mathlib.Core.List.{List, _∷_, [], _++_, map}
 use lib.ListN.{replicate}
 use Rattle.ground.specs.First.{firstFrom}
 use Rattle.buffer.specs.Bits.{bitAt, bitsValue}
-use Rattle.buffer.specs.Calls.{readerAt, readOf, fieldOf, hasOf, skipBytesOf}
+use Rattle.buffer.specs.Calls.{readerAt, readOf, fieldOf, hasOf, skipBytesOf, searchOf}
 use Rattle.grammar.specs.Reads.{_>>=_, run}
 use Rattle.header.specs.Readings.{plain}
 use Rattle.header.specs.declared.Format.{Format}
 use Rattle.header.specs.declared.Header.{Header}
 use Rattle.header.specs.declared.Header.the-variants.{Accepted, Refused}
-use Rattle.header.specs.Header.{boundBy, headerOf, startOf, syncOf, fieldsOf, identOf, ratesOf, restOf, modeOf, boundOf, checkOf, sizeOf}
+use Rattle.header.specs.Header.{boundBy, passedBy, headerOf, startOf, syncOf, seekOf, fieldsOf, identOf, ratesOf, restOf, modeOf, boundOf, checkOf, sizeOf}
 
 -- no header yet
 abbrev pub unknown : Format
@@ -48,3 +49,22 @@ pub sizes : map (λ samplerate. map (λ bitrate. sizeOf bitrate samplerate 0 fal
     ∷ []
 unfolding sizeOf
 sizes = refl
+
+-- 02, E2: the bytes that an attempt passes over. From byte 0: none before FF FF FD, whose sync is the first FF; two zero bytes; two others;
+-- two zero bytes and another one, though the search looks at none but the FF; all six where there is no sync. From bit 1 one, since the
+-- start is byte 1; from bit 9 none, since 47 bits are left
+abbrev passedIn : ℕ → List ℕ → ℕ
+passedIn at s = passedBy (readerAt at) (headerOf s (readerAt at) unknown)
+
+pub passes : map (passedIn 0)
+    ((0xFF ∷ 0xFF ∷ 0xFD ∷ 0xA0 ∷ 0 ∷ 0 ∷ [])
+    ∷ (0 ∷ 0 ∷ 0xFF ∷ 0xFD ∷ 0xA0 ∷ 0 ∷ [])
+    ∷ (1 ∷ 2 ∷ 0xFF ∷ 0xFD ∷ 0xA0 ∷ 0 ∷ [])
+    ∷ (0 ∷ 0 ∷ 1 ∷ 0xFF ∷ 0xFD ∷ 0xA0 ∷ 0 ∷ [])
+    ∷ (1 ∷ 2 ∷ 3 ∷ 4 ∷ 5 ∷ 0xFF ∷ [])
+    ∷ [])
+    ++ map (λ at. passedIn at (1 ∷ 2 ∷ 0xFF ∷ 0xFD ∷ 0xA0 ∷ 0 ∷ 0 ∷ [])) (1 ∷ 9 ∷ [])
+    ≡ 0 ∷ 2 ∷ 2 ∷ 3 ∷ 6 ∷ 1 ∷ 0 ∷ []
+unfolding headerOf startOf syncOf seekOf searchOf hasOf skipBytesOf fieldOf readOf bitsValue bitAt firstFrom run _>>=_ fieldsOf identOf ratesOf restOf
+    modeOf boundOf checkOf sizeOf
+passes = refl

@@ -1,4 +1,5 @@
 // One header attempt: audio.rs's `decode_header`, with 01's numbers 1 to 6 in place of a size of 0.
+use buffer::BytePos;
 use buffer::Field;
 use buffer::Holds;
 use buffer::Reader;
@@ -8,7 +9,7 @@ ghost use mathlib.Core.Path.{_≡_};
 ghost use Prim.Native.Nat.{_<_};
 ghost use Rattle.grammar.specs.Reads.{run, ran};
 ghost use Rattle.header.specs.Readings.{plain as plainReading, readingBy};
-ghost use Rattle.header.specs.Header.{identOf, ratesOf, modeOf, boundBy, checkOf, boundOf, sizeOf, differs, restOf, byIdent, fieldsOf, seekOf, syncOf, startOf, headerOf};
+ghost use Rattle.header.specs.Header.{identOf, ratesOf, modeOf, boundBy, checkOf, boundOf, sizeOf, differs, restOf, byIdent, fieldsOf, unsoughtOf, seekOf, syncOf, startOf, headerOf};
 
 const FRAME_SYNC: u32 = 0x7ff;
 
@@ -63,15 +64,24 @@ pub enum Header {
     Refused(u32),
 }
 
+// What an attempt gives, and the byte of the sync's FF: the stream's length where there is none, the aligned start where none was sought.
 pub struct Attempt {
     pub header: Header,
+    pub sync: BytePos,
     pub next: Reader,
 }
 
-// The place after the 11 ones, or a refusal and where it leaves the reader.
+// The byte of the FF and the place after the 11 ones; or a refusal, with the same byte and where it leaves the reader.
 pub enum Start {
-    At(Reader),
-    Refused(u32, Reader),
+    At(BytePos, Reader),
+    Refused(u32, BytePos, Reader),
+}
+
+// Refused before anything was sought.
+fn unsought(number: u32, reader: Reader) -> Start
+    ensures { λ x. ⌜ x ≡ unsoughtOf number reader ⌝ }
+{
+    Start::Refused(number, reader.at.byte_after(), reader)
 }
 
 fn seek(s: &[u8], reader: Reader) -> Start
@@ -79,19 +89,20 @@ fn seek(s: &[u8], reader: Reader) -> Start
 {
     let found = reader.find_frame_sync(s);
     match found {
-        Sync::Found(next) => Start::At(next),
-        Sync::Missing(next) => Start::Refused(2, next),
-        Sync::Refused(number) => Start::Refused(number, reader),
+        Sync::Found { sync, next, .. } => Start::At(sync, next),
+        Sync::Missing { sync, next, .. } => Start::Refused(2, sync, next),
+        Sync::Refused(number) => unsought(number, reader),
     }
 }
 
 fn sync(s: &[u8], reader: Reader) -> Start
     ensures { λ x. ⌜ x ≡ syncOf (now (s .entry)) reader ⌝ }
 {
+    let begin = reader.at.byte();
     let ones = reader.field(s, 11);
     let next = ones.next;
     if ones.value == FRAME_SYNC {
-        return Start::At(next);
+        return Start::At(begin, next);
     }
     seek(s, next)
 }
@@ -101,14 +112,14 @@ fn find_start(s: &[u8], reader: Reader) -> Start
 {
     let enough = reader.has(s, 48);
     match enough {
-        Holds::No => return Start::Refused(1, reader),
-        Holds::Refused(number) => return Start::Refused(number, reader),
+        Holds::No => return unsought(1, reader),
+        Holds::Refused(number) => return unsought(number, reader),
         Holds::Yes => {}
     }
     let zeros = reader.skip_bytes(s, 0);
     match zeros {
-        Skipped::Bytes(_, begin) => sync(s, begin),
-        Skipped::Refused(number) => Start::Refused(number, reader),
+        Skipped::Bytes(_, next) => sync(s, next),
+        Skipped::Refused(number) => unsought(number, reader),
     }
 }
 
@@ -257,6 +268,11 @@ fn other_format(known: Format, bitrate: usize, samplerate: usize, mode: u32) -> 
         & ((known.bitrate != bitrate) | (known.samplerate != samplerate) | (known.mode != mode))
 }
 
+pub struct HeaderAt {
+    pub header: Header,
+    pub next: Reader,
+}
+
 fn read_rest(
     s: &[u8],
     reader: Reader,
@@ -265,7 +281,7 @@ fn read_rest(
     bitrate: usize,
     samplerate: usize,
     padding: usize,
-) -> Attempt
+) -> HeaderAt
     requires { ⌜ (bitrate < 14) × (samplerate < 3) × (padding < 2) ⌝ }
     ensures { λ x. ⌜ ran (x .header) (x .next) ≡ run (restOf known check bitrate samplerate padding) (now (s .entry)) reader ⌝ }
 {
@@ -274,7 +290,7 @@ fn read_rest(
     let mode = m.value;
     let one = m.next;
     if other_format(known, bitrate, samplerate, mode) {
-        return Attempt {
+        return HeaderAt {
             header: Header::Refused(6),
             next: one,
         };
@@ -282,7 +298,7 @@ fn read_rest(
     let b = read_bound(s, one, mode, check);
     let next = b.next;
     let size = data_size(bitrate, samplerate, padding, check);
-    Attempt {
+    HeaderAt {
         header: Header::Accepted(
             Format {
                 reading,
@@ -297,7 +313,7 @@ fn read_rest(
     }
 }
 
-fn read_format(s: &[u8], reader: Reader, known: Format, check: bool) -> Attempt
+fn read_format(s: &[u8], reader: Reader, known: Format, check: bool) -> HeaderAt
     ensures { λ x. ⌜ ran (x .header) (x .next) ≡ run (byIdent known (Ident.LayerII check)) (now (s .entry)) reader ⌝ }
 {
     let r = read_rates(s, reader);
@@ -309,14 +325,14 @@ fn read_format(s: &[u8], reader: Reader, known: Format, check: bool) -> Attempt
             samplerate,
             padding,
         } => read_rest(s, next, known, check, bitrate, samplerate, padding),
-        Rates::Refused(number) => Attempt {
+        Rates::Refused(number) => HeaderAt {
             header: Header::Refused(number),
             next,
         },
     }
 }
 
-fn read_fields(s: &[u8], reader: Reader, known: Format) -> Attempt
+fn read_fields(s: &[u8], reader: Reader, known: Format) -> HeaderAt
     ensures { λ x. ⌜ ran (x .header) (x .next) ≡ run (fieldsOf known) (now (s .entry)) reader ⌝ }
 {
     let i = read_ident(s, reader);
@@ -324,7 +340,7 @@ fn read_fields(s: &[u8], reader: Reader, known: Format) -> Attempt
     let next = i.next;
     match ident {
         Ident::LayerII(check) => read_format(s, next, known, check),
-        Ident::Refused(number) => Attempt {
+        Ident::Refused(number) => HeaderAt {
             header: Header::Refused(number),
             next,
         },
@@ -336,9 +352,15 @@ pub fn decode_header(s: &[u8], reader: Reader, known: Format) -> Attempt
 {
     let start = find_start(s, reader);
     match start {
-        Start::At(at) => read_fields(s, at, known),
-        Start::Refused(number, next) => Attempt {
+        Start::At(sync, at) => {
+            let read = read_fields(s, at, known);
+            let header = read.header;
+            let next = read.next;
+            Attempt { header, sync, next }
+        }
+        Start::Refused(number, sync, next) => Attempt {
             header: Header::Refused(number),
+            sync,
             next,
         },
     }

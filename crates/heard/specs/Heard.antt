@@ -11,7 +11,7 @@ use lib.ListN.{length, getD, length-replicate}
 use borrow.Author.Tests.{eqb-false}
 use Rattle.ground.specs.Tests.{by-test, neither}
 use Rattle.buffer.specs.Bits.{longestStream}
-use Rattle.synthesis.specs.Slots.{memoryLength, outputLength}
+use Rattle.synthesis.specs.Slots.{memoryLength, outputLength, quiet}
 use Rattle.buffer.specs.Calls.{left}
 use Rattle.tables.specs.Standard.{rateOf}
 use Rattle.finite.specs.Within.{Within}
@@ -21,7 +21,7 @@ use Rattle.audio.specs.Numbers.{ends, answerNumber}
 use Rattle.state.specs.declared.Audio.{Audio}
 use Rattle.audio.specs.declared.Answer.{Answer}
 use Rattle.audio.specs.declared.Answer.the-variants.{Frame as FrameAnswer, Refused as RefusedAnswer}
-use Rattle.clip.specs.Frames.{Heard, hearing, heardOf, quiet, clipOf, rateIn}
+use Rattle.clip.specs.Frames.{Heard, hearing, heardOf, clipOf, rateIn}
 use Rattle.past.specs.Pasts.{Past, opened, decoded}
 use Rattle.past.specs.Calls.{Call, outcome, newMemory, newOutput, Accepts}
 use Rattle.past.specs.Finite.{samples-finite}

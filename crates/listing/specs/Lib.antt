@@ -4,4 +4,5 @@ pub mod Words
 pub mod Text
 pub mod TextLaws
 pub mod Tally
+pub mod LinesLaws
 pub mod Summary

@@ -4,11 +4,10 @@ use mathlib.Core.Bool.{Bool, true, false, cond, _&&_}
 use mathlib.Core.List.{List, [], _∷_, _++_, map}
 use lib.Dec.{leb, ltb}
 use lib.Ieee.{Float}
-use lib.ListN.{length, replicate}
+use lib.ListN.{length}
 use Rattle.buffer.specs.Calls.{bytePosOf, byteAfterOf}
 use Rattle.buffer.specs.declared.BytePos.{BytePos}
-use Rattle.window.specs.Output.{nought}
-use Rattle.synthesis.specs.Slots.{memoryLength, outputLength}
+use Rattle.synthesis.specs.Slots.{memoryLength, outputLength, quiet}
 use Rattle.header.specs.Readings.{plain}
 use Rattle.tables.specs.Standard.{kbpsOf, rateOf}
 use Rattle.verdict.specs.declared.Heading.{Heading}
@@ -33,19 +32,19 @@ byteBefore end bits = record { 0 = end .0 - byteAfterOf (record { 0 = bits }) .0
 
 -- a frame: "number from 0, byte after header and check word, rate, kbps, mode, bits used"; its start time stands beside it for replay.
 -- Its first bit is a byte's first, so that byte lies before the aligned position by the bits used, rounded up to bytes.
--- "calls until 1 or 7": those end the list
-abbrev pub lineBy : ℕ → Answer → Audio → Line
-lineBy number (Frame time bits) a =
-    FrameLine number (byteBefore (bytePosition a) bits) (rateOf (a .format .samplerate)) (kbpsOf (a .format .bitrate)) (a .format .mode) bits time
-lineBy number (Refused n) a = cond (ends n) (End n (bytePosition a)) (RefusedLine n (bytePosition a))
+-- "calls until 1 or 7": those end the list. 02, E2: "Lister lines end with `skipped n`", the bytes that were passed over
+abbrev pub lineBy : ℕ → ℕ → Answer → Audio → Line
+lineBy number skipped (Frame time bits) a =
+    FrameLine number (byteBefore (bytePosition a) bits) (rateOf (a .format .samplerate)) (kbpsOf (a .format .bitrate)) (a .format .mode) bits time skipped
+lineBy number skipped (Refused n) a = cond (ends n) (End n (bytePosition a) skipped) (RefusedLine n (bytePosition a) skipped)
 
--- a call's line, and the state after it
-abbrev pub withLine : ℕ → Decoded → Listed
-withLine number d = record { line = lineBy number (d .answer) (d .state); state = d .state }
+-- a call's line, which tells what was carried to it beside what the call passed over, and the state after it
+abbrev pub withLine : ℕ → ℕ → Decoded → Listed
+withLine number carried d = record { line = lineBy number (carried + d .skipped) (d .answer) (d .state); state = d .state }
 
 -- the next call's
-unfoldable pub nextOf : List ℕ → List Float → List Float → Audio → Listed
-nextOf s memory output a = withLine (a .frames) (decodeOf s memory output a)
+unfoldable pub nextOf : List ℕ → List Float → List Float → ℕ → Audio → Listed
+nextOf s memory output carried a = withLine (a .frames) carried (decodeOf s memory output a)
 
 -- ---- all lines of a stream
 
@@ -60,39 +59,41 @@ shown line samples = record { line = line; samples = samples }
 
 -- "calls until 1 or 7"; "the one line `long`": no line follows these
 abbrev pub isLast : Line → Bool
-isLast (FrameLine number at rate kbps mode bits time) = false
-isLast (RefusedLine number at) = false
-isLast (End number at) = true
+isLast (FrameLine number at rate kbps mode bits time skipped) = false
+isLast (RefusedLine number at skipped) = false
+isLast (End number at skipped) = true
 isLast Long = true
 
--- the lines of at most so many calls
-unfoldable pub shownFrom : ℕ → List ℕ → List Float → List Float → Audio → List Shown
-shownFrom zero s memory output a = []
-shownFrom (suc calls) s memory output a =
-    let x = nextOf s memory output a in
+-- the lines of at most so many calls; what is carried goes to the first
+unfoldable pub shownFrom : ℕ → List ℕ → List Float → List Float → ℕ → Audio → List Shown
+shownFrom zero s memory output carried a = []
+shownFrom (suc calls) s memory output carried a =
+    let x = nextOf s memory output carried a in
     let m = decodeMemory s memory output a in
     let o = decodeOutput s memory output a in
-    shown (x .line) o ∷ cond (isLast (x .line)) [] (shownFrom calls s m o (x .state))
+    shown (x .line) o ∷ cond (isLast (x .line)) [] (shownFrom calls s m o 0 (x .state))
 
 -- "an opening refused with 2 to 5 prints it too"
 abbrev pub openingTold : ℕ → Bool
 openingTold n = leb 2 n && leb n 5
 
--- "number and byte position afterwards"; an opening refused with 1 is told by the first call
-abbrev pub openingShown : Heading → Audio → List Shown
-openingShown Known a = []
-openingShown (HeadingRefused n) a = cond (openingTold n) (shown (RefusedLine n (bytePosition a)) [] ∷ []) []
+-- "number and byte position afterwards", and what it passed over; an opening refused with 1 is told by the first call
+abbrev pub openingShown : ℕ → Heading → Audio → List Shown
+openingShown skipped Known a = []
+openingShown skipped (HeadingRefused n) a = cond (openingTold n) (shown (RefusedLine n (bytePosition a) skipped) [] ∷ []) []
 
--- +0.0, n times: what memory and output are before the opening
-abbrev pub quiet : ℕ → List Float
-quiet n = replicate n nought
+-- 02, E2: "A header accepted at opening has no line; its number goes to the line after it"
+abbrev pub carriedBy : ℕ → Heading → ℕ
+carriedBy skipped Known = skipped
+carriedBy skipped (HeadingRefused n) = 0
 
 -- from a fresh opening; on n bytes call n/2 + 2 and all later ones give 1 or 7 (claims, `settles`)
 unfoldable pub calledOf : List ℕ → List Shown
 calledOf s =
     let opened = openOf plain s (quiet memoryLength) in
-    openingShown (opened .answer) (opened .state)
-    ++ shownFrom (length s / 2 + 2) s (openMemory s (quiet memoryLength)) (quiet outputLength) (opened .state)
+    let carried = carriedBy (opened .skipped) (opened .answer) in
+    openingShown (opened .skipped) (opened .answer) (opened .state)
+    ++ shownFrom (length s / 2 + 2) s (openMemory s (quiet memoryLength)) (quiet outputLength) carried (opened .state)
 
 -- "at most 65,536 bytes"
 abbrev pub tooLong : List ℕ → Bool

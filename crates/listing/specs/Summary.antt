@@ -1,11 +1,12 @@
--- A stream in one line of words: its frames and how long they sound, its refusals by their numbers, and its end. Assumes nothing.
+-- A stream in one line of words: its frames and how long they sound, the junk in front, its refusals by their numbers, and its end.
+-- Assumes nothing.
 use Prim.Native.Nat.{ℕ, zero, suc, _+_, _*_, _/_, _%_}
 use mathlib.Core.Bool.{cond}
 use mathlib.Core.List.{List, [], _++_}
 use lib.Dec.{eqb}
 use lib.ListN.{length}
 use Rattle.listing.specs.Lines.{tooLong, linesOf}
-use Rattle.listing.specs.Tally.{firstOf, ratesIn, bytesIn, endIn}
+use Rattle.listing.specs.Tally.{firstOf, ratesIn, bytesIn, endIn, junkIn}
 use Rattle.listing.specs.Text.{newline, numbered, bracketed}
 use Rattle.listing.specs.Words.{letters, reasonOf}
 use Rattle.listing.specs.declared.Line.{Line}
@@ -28,6 +29,10 @@ framesText frames rate =
     cond (eqb frames 0) (letters "0 frames: nothing was played")
     (countedText [] frames (letters " frame") ++ secondsText (hundredthsOf frames rate))
 
+-- 02, E2: "Makers send clips with junk in front". None is not told
+unfoldable pub junkText : ℕ → List ℕ
+junkText bytes = cond (eqb bytes 0) [] (countedText (letters "; ") bytes (letters " byte") ++ letters " of junk in front")
+
 -- a number, and what it means
 unfoldable pub reasonText : List ℕ → ℕ → List ℕ
 reasonText word n = numbered word n ++ bracketed (reasonOf n)
@@ -48,7 +53,7 @@ refusalsText lines n (suc more) = refusalText n (length (bytesIn n lines)) (firs
 unfoldable pub linesText : List Line → List ℕ
 linesText lines =
     framesText (length (ratesIn lines)) (firstOf (ratesIn lines))
-    ++ (refusalsText lines 2 5 ++ (reasonText (letters "; ended with ") (endIn lines) ++ newline))
+    ++ (junkText (junkIn lines) ++ (refusalsText lines 2 5 ++ (reasonText (letters "; ended with ") (endIn lines) ++ newline)))
 
 unfoldable pub summaryOf : List ℕ → List ℕ
 summaryOf s = cond (tooLong s) (letters "too long: 65,536 bytes at most\n") (linesText (linesOf s))

@@ -10,7 +10,7 @@ use Rattle.io.specs.Digits.{digits}
 use Rattle.buffer.specs.declared.BytePos.{BytePos}
 use Rattle.listing.specs.Fnv.{sumOf}
 use Rattle.listing.specs.Lines.{Shown, shownOf}
-use Rattle.listing.specs.Words.{letters, wordsOf}
+use Rattle.listing.specs.Words.{letters, lineWords}
 use Rattle.listing.specs.declared.Behind.{Behind}
 use Rattle.listing.specs.declared.Behind.the-variants.{Nothing, Marks, Words}
 use Rattle.listing.specs.declared.Line.{Line}
@@ -56,6 +56,9 @@ endWord = letters "end "
 abbrev pub longWord : List ℕ
 longWord = letters "long"
 
+abbrev pub skippedWord : List ℕ
+skippedWord = letters " skipped "
+
 abbrev pub timeWord : List ℕ
 timeWord = letters " time "
 
@@ -80,9 +83,9 @@ hexed word n = word ++ digits 16 16 n
 
 -- only a frame has them
 abbrev pub marksOf : Line → List Float → List ℕ
-marksOf (Frame number at rate kbps mode bits time) samples = hexed timeWord (timeBits time) ++ hexed sumWord (sumOf samples (length samples))
-marksOf (Refused number at) samples = []
-marksOf (End number at) samples = []
+marksOf (Frame number at rate kbps mode bits time skipped) samples = hexed timeWord (timeBits time) ++ hexed sumWord (sumOf samples (length samples))
+marksOf (Refused number at skipped) samples = []
+marksOf (End number at skipped) samples = []
 marksOf Long samples = []
 
 unfoldable pub bracketed : List ℕ → List ℕ
@@ -92,24 +95,25 @@ bracketed words = letters " (" ++ (words ++ letters ")")
 abbrev pub behindOf : Behind → Line → List Float → List ℕ
 behindOf Nothing line samples = []
 behindOf Marks line samples = marksOf line samples
-behindOf Words line samples = bracketed (wordsOf line)
+behindOf Words line samples = bracketed (lineWords line)
 
--- "`refused`: number and byte position"; "`end`: 1 or 7 and position"
-unfoldable pub placeText : List ℕ → ℕ → BytePos → List ℕ
-placeText word number at = numbered word number ++ numbered atWord (at .0)
+-- "`refused`: number and byte position"; "`end`: 1 or 7 and position". 02, E2: "Lister lines end with `skipped n`"
+unfoldable pub placeText : List ℕ → ℕ → BytePos → ℕ → List ℕ
+placeText word number at skipped = numbered word number ++ (numbered atWord (at .0) ++ numbered skippedWord skipped)
 
--- "Frame line: number from 0, byte after header and check word, rate, kbps, mode, bits used"
+-- "Frame line: number from 0, byte after header and check word, rate, kbps, mode, bits used", and with E2 the bytes passed over
 unfoldable pub formatText : ℕ → ℕ → ℕ → ℕ → List ℕ
 formatText rate kbps mode bits = numbered rateWord rate ++ (numbered kbpsWord kbps ++ (numbered modeWord mode ++ numbered bitsWord bits))
 
-unfoldable pub frameText : ℕ → BytePos → ℕ → ℕ → ℕ → ℕ → List ℕ
-frameText number at rate kbps mode bits = numbered frameWord number ++ (numbered atWord (at .0) ++ formatText rate kbps mode bits)
+unfoldable pub frameText : ℕ → BytePos → ℕ → ℕ → ℕ → ℕ → ℕ → List ℕ
+frameText number at rate kbps mode bits skipped =
+    numbered frameWord number ++ (numbered atWord (at .0) ++ (formatText rate kbps mode bits ++ numbered skippedWord skipped))
 
--- a line as 01 has it, up to its newline
+-- a line as 01 and E2 have it, up to its newline
 abbrev pub bareText : Line → List ℕ
-bareText (Frame number at rate kbps mode bits time) = frameText number at rate kbps mode bits
-bareText (Refused number at) = placeText refusedWord number at
-bareText (End number at) = placeText endWord number at
+bareText (Frame number at rate kbps mode bits time skipped) = frameText number at rate kbps mode bits skipped
+bareText (Refused number at skipped) = placeText refusedWord number at skipped
+bareText (End number at skipped) = placeText endWord number at skipped
 bareText Long = longWord
 
 abbrev pub textBy : Behind → Line → List Float → List ℕ

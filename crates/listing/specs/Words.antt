@@ -29,12 +29,12 @@ reasonOf n =
     (letters "a mistake of the caller")))))))
 
 -- a frame's mode; there are four
-unfoldable pub modeOf : ℕ → List ℕ
-modeOf n =
+unfoldable pub modeWords : ℕ → List ℕ
+modeWords n =
     cond (eqb n 0) (letters "stereo") (cond (eqb n 1) (letters "joint stereo") (cond (eqb n 2) (letters "two channels") (letters "mono")))
 
-abbrev pub wordsOf : Line → List ℕ
-wordsOf (Frame number at rate kbps mode bits time) = modeOf mode
-wordsOf (Refused number at) = reasonOf number
-wordsOf (End number at) = reasonOf number
-wordsOf Long = letters "more than 65,536 bytes"
+abbrev pub lineWords : Line → List ℕ
+lineWords (Frame number at rate kbps mode bits time skipped) = modeWords mode
+lineWords (Refused number at skipped) = reasonOf number
+lineWords (End number at skipped) = reasonOf number
+lineWords Long = letters "more than 65,536 bytes"

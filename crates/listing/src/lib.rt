@@ -3,10 +3,15 @@ use audio::Answer;
 use buffer::BitIndex;
 use buffer::BytePos;
 use state::Audio;
+use verdict::Asked;
+use verdict::Heading;
 ghost use mathlib.Core.Path.{_≡_};
+ghost use Prim.Native.Nat.{_≤_};
+ghost use lib.ListN.{length};
 ghost use Rattle.tables.specs.Standard.{kbpsOf, rateOf};
 ghost use Rattle.audio.specs.Calls.{decodeMemory, decodeOutput};
-ghost use Rattle.listing.specs.Lines.{byteBefore, bytePosition, isLast, lineBy, nextOf, openingTold};
+ghost use Rattle.listing.specs.Lines.{byteBefore, bytePosition, carriedBy, isLast, lineBy, nextOf, openingTold};
+ghost use Rattle.listing.specs.Tally.{skippedIn};
 
 pub enum Line {
     Frame {
@@ -17,14 +22,17 @@ pub enum Line {
         mode: u32,
         bits: usize,
         time: f64,
+        skipped: usize,
     },
     Refused {
         number: u32,
         at: BytePos,
+        skipped: usize,
     },
     End {
         number: u32,
         at: BytePos,
+        skipped: usize,
     },
     Long,
 }
@@ -99,21 +107,51 @@ pub fn is_told(number: u32) -> bool
     (2 <= number) & (number <= 5)
 }
 
-// One decode call, and its line.
-pub fn next_line(a: Audio, stream: &[u8], memory: &mut [f32], output: &mut [f32]) -> Listed
-    ensures { λ r. ⌜ r ≡ nextOf (now (stream .entry)) (now (memory .entry)) (now (output .entry)) a ⌝ }
+// 02, E2: "A header accepted at opening has no line; its number goes to the line after it".
+pub fn carried(opened: Asked) -> usize
+    ensures { λ r. ⌜ r ≡ carriedBy (opened .skipped) (opened .answer) ⌝ }
+{
+    let answer = opened.answer;
+    match answer {
+        Heading::Known => opened.skipped,
+        Heading::Refused(_) => 0,
+    }
+}
+
+// The bytes that a line says were passed over.
+pub fn skipped(line: Line) -> usize
+    ensures { λ r. ⌜ r ≡ skippedIn line ⌝ }
+{
+    match line {
+        Line::Frame { skipped, .. } => skipped,
+        Line::Refused { skipped, .. } => skipped,
+        Line::End { skipped, .. } => skipped,
+        Line::Long => 0,
+    }
+}
+
+// One decode call, and its line, which adds what an accepted opening before it passed over.
+pub fn next_line(
+    a: Audio,
+    stream: &[u8],
+    memory: &mut [f32],
+    output: &mut [f32],
+    carried: usize,
+) -> Listed
+    requires { ⌜ carried ≤ length (now stream) ⌝ }
+    ensures { λ r. ⌜ r ≡ nextOf (now (stream .entry)) (now (memory .entry)) (now (output .entry)) carried a ⌝ }
     ensures { λ _. ⌜ now (memory .exit) ≡ decodeMemory (now (stream .entry)) (now (memory .entry)) (now (output .entry)) a ⌝ }
     ensures { λ _. ⌜ now (output .exit) ≡ decodeOutput (now (stream .entry)) (now (memory .entry)) (now (output .entry)) a ⌝ }
 {
     let d = audio::decode(a, stream, memory, output);
     let state = d.state;
     let answer = d.answer;
-    let line = line_of(a.frames, answer, state);
+    let line = line_of(a.frames, answer, state, carried + d.skipped);
     Listed { line, state }
 }
 
-fn line_of(number: u32, answer: Answer, state: Audio) -> Line
-    ensures { λ r. ⌜ r ≡ lineBy number answer state ⌝ }
+fn line_of(number: u32, answer: Answer, state: Audio, skipped: usize) -> Line
+    ensures { λ r. ⌜ r ≡ lineBy number skipped answer state ⌝ }
 {
     let f = state.format;
     let end = byte_of(state);
@@ -126,12 +164,21 @@ fn line_of(number: u32, answer: Answer, state: Audio) -> Line
             mode: f.mode,
             bits,
             time,
+            skipped,
         },
         Answer::Refused(n) => {
             if audio::ends(n) {
-                return Line::End { number: n, at: end };
+                return Line::End {
+                    number: n,
+                    at: end,
+                    skipped,
+                };
             }
-            Line::Refused { number: n, at: end }
+            Line::Refused {
+                number: n,
+                at: end,
+                skipped,
+            }
         }
     }
 }

@@ -80,7 +80,7 @@ endOf c = granulesAt (c .stream) (frameState c .reader) (frameState c .format) .
 -- what it leaves, then
 pub record Leaves (c : Call) : Type 0 where
   pub goes : Goes (c .stream) (length (c .memory)) (length (c .output)) (frameState c)
-  pub gives : outcome c ≡ framedOf (c .stream) (frameState c)
+  pub gives : outcome c ≡ framedOf (c .stream) (before c .skipped) (frameState c)
   pub ring : outcome c .state .ring ≡ positionAfter (c .state .ring) 36
   pub memory : newMemory c ≡ memoryAfter (slotsOf (granulesIn c)) (c .state .ring) (c .memory) 36
   pub output : newOutput c ≡ outputAfter (slotsOf (granulesIn c)) (c .state .ring) (c .memory) (c .output) 0 36
@@ -90,7 +90,7 @@ module _ (c : Call) where
   verdict-of = verdict-holds (c .stream) (length (c .memory)) (length (c .output)) (c .state)
 
   pub before-keeps : Stays (c .state) (frameState c)
-  before-keeps = verdict-leaves (Stays (c .state)) (stays (c .state)) (attempt-keeps (c .stream) (c .state)) verdict-of
+  before-keeps = verdict-leaves (λ _. Stays (c .state)) (stays (c .state)) (attempt-keeps (c .stream) (c .state)) verdict-of
 
   pub known-leaves : before c .answer ≡ Known → Leaves c
   unfolding decodeOf decodeMemory decodeOutput framedOf afterOf framedMemory framedOutput frameMemory frameOutput
@@ -106,13 +106,13 @@ module _ (c : Call) where
 
   pub accepted-known : Accepts c → before c .answer ≡ Known
   unfolding decodeOf
-  accepted-known ok = by-verdict (before c .answer) (before c .state) (ok .answer)
+  accepted-known ok = by-verdict (before c .skipped) (before c .answer) (before c .state) (ok .answer)
     where
-      by-verdict : (h : Heading) (b : Audio) → answering (c .stream) h b .answer ≡ Frame (ok .time) (ok .bits) → h ≡ Known
-      by-verdict Known b e = refl
-      by-verdict (Refused n) b e = absurd (let z : _≡_ {A = ℕ} 0 1 = cc in omega arith)
+      by-verdict : (k : ℕ) (h : Heading) (b : Audio) → answering (c .stream) k h b .answer ≡ Frame (ok .time) (ok .bits) → h ≡ Known
+      by-verdict k Known b e = refl
+      by-verdict k (Refused n) b e = absurd (let z : _≡_ {A = ℕ} 0 1 = cc in omega arith)
 
-  pub known-accepted : (b : Audio) → before c ≡ asked Known b → Accepts c
+  pub known-accepted : {k : ℕ} (b : Audio) → before c ≡ asked k Known b → Accepts c
   unfolding decodeOf framedOf afterOf
   known-accepted b is =
       record { time = b .time; bits = granulesAt (c .stream) (b .reader) (b .format) .next .at .0 - b .reader .at .0; answer = rw is }
@@ -125,7 +125,7 @@ module _ (c : Call) where
   unfolding framedOf afterOf
   accepted-bits ok =
       let e = accepted-leaves ok .gives in
-      let same : Frame (ok .time) (ok .bits) ≡ framedOf (c .stream) (frameState c) .answer = sym (ok .answer) ∙ ap (λ (x : Decoded). x .answer) e in
+      let same : Frame (ok .time) (ok .bits) ≡ framedOf (c .stream) (before c .skipped) (frameState c) .answer = sym (ok .answer) ∙ ap (λ (x : Decoded). x .answer) e in
       cc
 
   -- a call that accepts no frame leaves frame count and ring position
@@ -133,7 +133,7 @@ module _ (c : Call) where
   unfolding decodeOf
   unless-known never = go (before c .answer) refl
     where
-      go : (h : Heading) → before c .answer ≡ h → Stays (c .state) (answering (c .stream) h (frameState c) .state)
+      go : (h : Heading) → before c .answer ≡ h → Stays (c .state) (answering (c .stream) (before c .skipped) h (frameState c) .state)
       go Known e = absurd (never e)
       go (Refused n) e = before-keeps
 

@@ -43,26 +43,26 @@ own f = record { bitrate = refl; samplerate = refl; mode = refl }
 -- 6 refuses a header of another bit rate, sample rate or mode, so those once known stay
 pub attempt-stays : (s : List ℕ) (a : Audio) → (a .format .samplerate ≡ 3 → ⊥) → SameFormat (a .format) (attemptOf s a .state .format)
 unfolding attemptOf
-attempt-stays s a known = let t = headerOf s (a .reader) (a .format) in go (t .header) (t .next) (header-good s (a .reader) (a .format))
+attempt-stays s a known = let t = headerOf s (a .reader) (a .format) in go _ (t .header) (t .next) (header-good s (a .reader) (a .format))
   where
-    go : (h : Header) (r : Reader) → GoodHeader (a .format) h → SameFormat (a .format) (seeking a r h .state .format)
-    go (Accepted f n) r g = g .same known
-    go (HeaderRefused n) r g = own (a .format)
+    go : (k : ℕ) (h : Header) (r : Reader) → GoodHeader (a .format) h → SameFormat (a .format) (seeking k a r h .state .format)
+    go k (Accepted f n) r g = g .same known
+    go k (HeaderRefused n) r g = own (a .format)
 
 module _ (c : Call) where
-  frame-stays : (h : Heading) (b : Audio) → SameFormat (b .format) (answering (c .stream) h b .state .format)
+  frame-stays : (k : ℕ) (h : Heading) (b : Audio) → SameFormat (b .format) (answering (c .stream) k h b .state .format)
   unfolding framedOf afterOf cutFormat
-  frame-stays Known b = record { bitrate = refl; samplerate = refl; mode = refl }
-  frame-stays (Refused n) b = own (b .format)
+  frame-stays k Known b = record { bitrate = refl; samplerate = refl; mode = refl }
+  frame-stays k (Refused n) b = own (b .format)
 
   pub after-frame : SameFormat (frameState c .format) (outcome c .state .format)
   unfolding decodeOf
-  after-frame = frame-stays (before c .answer) (frameState c)
+  after-frame = frame-stays (before c .skipped) (before c .answer) (frameState c)
 
   pub format-stays : (c .state .format .samplerate ≡ 3 → ⊥) → SameFormat (c .state .format) (outcome c .state .format)
   format-stays known =
       let f = c .state .format in
-      let b = verdict-leaves (λ (x : Audio). SameFormat f (x .format)) (own f) (attempt-stays (c .stream) (c .state) known) (verdict-of c) in
+      let b = verdict-leaves (λ _ (x : Audio). SameFormat f (x .format)) (own f) (attempt-stays (c .stream) (c .state) known) (verdict-of c) in
       let e = after-frame in
       record { bitrate = e .bitrate ∙ b .bitrate; samplerate = e .samplerate ∙ b .samplerate; mode = e .mode ∙ b .mode }
 

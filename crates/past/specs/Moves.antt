@@ -34,19 +34,19 @@ use Rattle.past.specs.Sound.{frame-moves}
 module _ (s : List ℕ) (short : length s ≤ longestStream) (a : Audio) (w : Ranged a) where
   tried-reader : attemptOf s a .state .reader ≡ headerOf s (a .reader) (a .format) .next
   unfolding attemptOf
-  tried-reader = let t = headerOf s (a .reader) (a .format) in go (t .next) (t .header)
+  tried-reader = let t = headerOf s (a .reader) (a .format) in go _ (t .next) (t .header)
     where
-      go : (r : Reader) (h : Header) → seeking a r h .state .reader ≡ r
-      go r (Accepted f n) = refl
-      go r (HeaderRefused n) = refl
+      go : (k : ℕ) (r : Reader) (h : Header) → seeking k a r h .state .reader ≡ r
+      go k r (Accepted f n) = refl
+      go k r (HeaderRefused n) = refl
 
   few-give-one : left s (a .reader) < 48 → attemptOf s a .answer ≡ Refused 1
   unfolding attemptOf
   few-give-one few = rw (few-bits-stay s (a .reader) (a .format) short (w .near) few)
 
-  pub attempt-forth : {h : Heading} {b : Audio} → attemptOf s a ≡ asked h b → (h ≡ Refused 1 → ⊥)
+  pub attempt-forth : {k : ℕ} {h : Heading} {b : Audio} → attemptOf s a ≡ asked k h b → (h ≡ Refused 1 → ⊥)
       → (48 ≤ left s (a .reader)) × (a .reader .at .0 + 16 ≤ b .reader .at .0)
-  attempt-forth {h} {b} e not = go (ltb (left s (a .reader)) 48) refl
+  attempt-forth {k} {h} {b} e not = go (ltb (left s (a .reader)) 48) refl
     where
       go : (t : Bool) → ltb (left s (a .reader)) 48 ≡ t → (48 ≤ left s (a .reader)) × (a .reader .at .0 + 16 ≤ b .reader .at .0)
       go true t = absurd (not (sym (ap (λ (x : Asked). x .answer) e) ∙ few-give-one (ltb-true _ _ t)))
@@ -57,7 +57,7 @@ module _ (s : List ℕ) (short : length s ≤ longestStream) (a : Audio) (w : Ra
           (enough, omega (arith, m, ap (λ (x : Reader). x .at .0) r))
 
 -- with a header waiting 720 bits are left for its data; else there were 48 for the attempt
-heads-forth : {s : List ℕ} {m o : ℕ} {a b : Audio} → Called s m o a → Heads s a b → 8 * b .pending ≤ left s (b .reader)
+heads-forth : {s : List ℕ} {m o k : ℕ} {a b : Audio} → Called s m o a → Heads s a k b → 8 * b .pending ≤ left s (b .reader)
     → (48 ≤ left s (a .reader)) × (a .reader .at .0 ≤ b .reader .at .0)
 heads-forth {a = a} c (waits n) l = let large = ranged a (c .within) .large n in (omega arith, omega arith)
 heads-forth {s} {a = a} c (accepts z e) l =
@@ -66,24 +66,24 @@ heads-forth {s} {a = a} c (accepts z e) l =
 
 module _ (s : List ℕ) (m o : ℕ) (a : Audio) (c : Called s m o a) where
   abbrev number : Asked → ℕ
-  number x = answerNumber (answering s (x .answer) (x .state) .answer)
+  number x = answerNumber (answering s (x .skipped) (x .answer) (x .state) .answer)
 
   verdict-moves : {x : Asked} → Verdict s m o a x → (number x ≡ 1 → ⊥) → (number x ≡ 7 → ⊥)
-      → (48 ≤ left s (a .reader)) × (a .reader .at .0 + 16 ≤ answering s (x .answer) (x .state) .state .reader .at .0)
+      → (48 ≤ left s (a .reader)) × (a .reader .at .0 + 16 ≤ answering s (x .skipped) (x .answer) (x .state) .state .reader .at .0)
   verdict-moves (at-once (eight l)) p q = absurd (let k = c .room .short in omega arith)
   verdict-moves (at-once (nine _ (inl l))) p q = absurd (let k = c .room .memory-long in omega arith)
   verdict-moves (at-once (nine _ (inr l))) p q = absurd (let k = c .room .output-long in omega arith)
   verdict-moves (at-once (ten _ r)) p q = absurd (never (c .within) r)
-  verdict-moves (no-header {n} _ z e) p q =
+  verdict-moves (no-header {n = n} _ z e) p q =
       attempt-forth s (c .room .short) a (ranged a (c .within)) e (λ k. p (ap refusedBy k))
     where
       refusedBy : Heading → ℕ
       refusedBy Known = 0
       refusedBy (Refused n) = n
   verdict-moves (cut-off _ h l) p q = absurd (q refl)
-  verdict-moves (whole {b} d h l) p q =
+  verdict-moves (whole {k = skipped} {b = b} d h l) p q =
       let k = heads-kept d h in
-      let f = frame-moves s b (known-goes (whole d h l) refl .ready) (k .ranged) (k .some refl) in
+      let f = frame-moves s skipped b (known-goes (whole d h l) refl .ready) (k .ranged) (k .some refl) in
       let g = heads-forth d h l in
       (g .0, omega (arith, f, g .1))
 

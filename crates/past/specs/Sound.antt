@@ -23,7 +23,7 @@ use Rattle.audio.specs.Calls.{alignedOf, answering, afterOf, framedOf, decodeOf
 use Rattle.state.specs.StateLaws.{Ranged, ranged, in-range, fresh-ranged, framed-to-ranged}
 use Rattle.audio.specs.CallsLaws.{Ready, goes, ended, question-leaves, by-opening}
 use Rattle.verdict.specs.VerdictLaws.{Sound, Kept, attempt-kept, verdict-holds, verdict-kept}
-use Rattle.past.specs.Calls.{Call, frameState, Accepts, verdict-of, accepted-leaves, refused-keeps}
+use Rattle.past.specs.Calls.{Call, before, frameState, Accepts, verdict-of, accepted-leaves, refused-keeps}
 use Rattle.header.specs.declared.Reading.{Reading}
 use Rattle.state.specs.declared.Audio.{Audio}
 use Rattle.audio.specs.declared.Answer.{Answer}
@@ -41,9 +41,10 @@ aligned-at : (s : List ℕ) (r : Reader) → length s ≤ longestStream → r .a
 unfolding alignedOf alignOf
 aligned-at s r l h = simp (le-ltb _ _ l, le-ltb _ _ h)
 
-module _ (s : List ℕ) (a : Audio) (y : Ready s a) (w : Ranged a) (some : a .pending ≡ 0 → ⊥) where
+module _ (s : List ℕ) (skipped : ℕ) (a : Audio) (y : Ready s a) (w : Ranged a) (some : a .pending ≡ 0 → ⊥) where
   -- it moves on by 16 bits at least, within the stream
-  pub frame-moves : (a .reader .at .0 + 16 ≤ framedOf s a .state .reader .at .0) × (framedOf s a .state .reader .at .0 ≤ 8 * length s)
+  pub frame-moves : (a .reader .at .0 + 16 ≤ framedOf s skipped a .state .reader .at .0)
+      × (framedOf s skipped a .state .reader .at .0 ≤ 8 * length s)
   unfolding framedOf afterOf
   frame-moves =
       let end = granulesAt s (a .reader) (a .format) .next in
@@ -53,7 +54,7 @@ module _ (s : List ℕ) (a : Audio) (y : Ready s a) (w : Ranged a) (some : a .pe
       let e = aligned-at s end (y .short) (omega arith) in
       (omega arith, omega arith)
 
-  framed-ranged : Ranged (framedOf s a .state)
+  framed-ranged : Ranged (framedOf s skipped a .state)
   unfolding framedOf afterOf cutFormat
   framed-ranged =
       let m = frame-moves in
@@ -62,7 +63,7 @@ module _ (s : List ℕ) (a : Audio) (y : Ready s a) (w : Ranged a) (some : a .pe
       framed-to-ranged a _ _ _ w (omega arith) (omega arith) (y .fit .samplerate) (record { bitrate = refl; samplerate = refl; mode = refl }) (omega arith)
       (place-after (w .place) 36)
 
-  framed-sound : Sound a → Sound (framedOf s a .state)
+  framed-sound : Sound a → Sound (framedOf s skipped a .state)
   unfolding framedOf afterOf cutFormat
   framed-sound h = record { extension = λ some. absurd (some refl); time = refl }
 
@@ -92,12 +93,12 @@ decode-leads s m o a w = go (r .answer) refl
     k : Kept a r
     k = verdict-kept w (verdict-holds s (length m) (length o) a)
 
-    go : (y : Heading) → r .answer ≡ y → Leads a (answering s y (r .state) .state) (framesIn (answering s y (r .state) .answer))
+    go : (y : Heading) → r .answer ≡ y → Leads a (answering s (r .skipped) y (r .state) .state) (framesIn (answering s (r .skipped) y (r .state) .answer))
     go Known e =
         let y = goes s (length m) (length o) a r refl e .ready in
         record {
-          ranged = framed-ranged s (r .state) y (k .ranged) (k .some e);
-          sound = λ h. framed-sound s (r .state) y (k .ranged) (k .some e) (k .sound h);
+          ranged = framed-ranged s (r .skipped) (r .state) y (k .ranged) (k .some e);
+          sound = λ h. framed-sound s (r .skipped) (r .state) y (k .ranged) (k .some e) (k .sound h);
           frames = ap (λ n. n + 1) (k .frames);
         }
     go (Refused n) e = no-more k
@@ -176,7 +177,7 @@ pub time-by-frames : {c : Call} → Past (c .state) (c .memory) → (ok : Accept
 unfolding framedOf afterOf
 time-by-frames {c} past ok =
     let e = accepted-leaves c ok .gives in
-    let same : Frame (ok .time) (ok .bits) ≡ framedOf (c .stream) (frameState c) .answer = sym (ok .answer) ∙ ap (λ (x : Decoded). x .answer) e in
+    let same : Frame (ok .time) (ok .bits) ≡ framedOf (c .stream) (before c .skipped) (frameState c) .answer = sym (ok .answer) ∙ ap (λ (x : Decoded). x .answer) e in
     let told : ok .time ≡ frameState c .time = cc in
     let k = verdict-kept (ranged (c .state) (sound-state-in-range past)) (verdict-of c) in
     told ∙ k .sound (sound past) .time ∙ ap (λ (n : ℕ). startTimeOf n (frameState c .format .samplerate)) (k .frames)

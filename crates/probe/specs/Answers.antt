@@ -1,7 +1,9 @@
 -- The reader's calls as numbers: what the comparison gets across the boundary.
--- Each answer is 01's number, a value, and the bit position afterwards; a refusal gives the value 0 and the old position.
+-- Each answer is 01's number, a value, and the bit position afterwards; a refusal gives the value 0 and the old position. Behind them stand
+-- the byte that a search came to and the bytes that it passed over, else 0.
 use Prim.Native.Nat.{ℕ, zero, suc, _%_}
 use mathlib.Core.List.{List}
+use lib.ListN.{set}
 use Rattle.buffer.specs.Calls.{readerAt, hasOf, endedOf, readOf, alignOf, skipOf, skipBytesOf, tellOf, searchOf}
 use Rattle.buffer.specs.declared.Read.{Read}
 use Rattle.buffer.specs.declared.Read.the-variants.{Value, Short, Refused}
@@ -19,7 +21,7 @@ use Rattle.probe.specs.declared.reading.Answer.{Answer}
 
 -- number, value, position
 abbrev pub asNumbers : ℕ → ℕ → ℕ → Answer
-asNumbers n v p = record { number = n; value = v; at = p }
+asNumbers n v p = record { number = n; value = v; at = p; sync = 0; skipped = 0 }
 
 -- whether so many bits are left: 1 or 0
 abbrev pub ofHolds : ℕ → Holds → Answer
@@ -50,8 +52,8 @@ ofTold at (ToldRefused n) = asNumbers n 0 at
 
 -- whether a sync was found: 1 or 0
 abbrev pub ofSync : ℕ → Sync → Answer
-ofSync at (Found r) = asNumbers 0 1 (r .at .0)
-ofSync at (Missing r) = asNumbers 0 0 (r .at .0)
+ofSync at (Found sync skipped r) = record { number = 0; value = 1; at = r .at .0; sync = sync .0; skipped = skipped }
+ofSync at (Missing sync skipped r) = record { number = 0; value = 0; at = r .at .0; sync = sync .0; skipped = skipped }
 ofSync at (SyncRefused n) = asNumbers n 0 at
 
 -- call 0 has, 1 has_ended, 2 read, 3 align, 4 skip, 5 skip_bytes, 6 tell, 7 and above find_frame_sync
@@ -64,3 +66,7 @@ callOf (suc (suc (suc (suc zero)))) s at n = ofMoved at (skipOf s (readerAt at) 
 callOf (suc (suc (suc (suc (suc zero))))) s at n = ofSkipped at (skipBytesOf s (readerAt at) (n % 256))
 callOf (suc (suc (suc (suc (suc (suc zero)))))) s at n = ofTold at (tellOf s (readerAt at))
 callOf (suc (suc (suc (suc (suc (suc (suc k))))))) s at n = ofSync at (searchOf s (readerAt at))
+
+-- value, position, sync, passed over
+abbrev pub put : Answer → List ℕ → List ℕ
+put a o = set (set (set (set o 0 (a .value)) 1 (a .at)) 2 (a .sync)) 3 (a .skipped)

@@ -11,15 +11,16 @@ use header::Attempt;
 use header::Format;
 use header::Header;
 ghost use mathlib.Core.Path.{_≡_};
-ghost use lib.ListN.{set};
-ghost use Rattle.probe.specs.Answers.{ofHolds, ofRead, ofMoved, ofSkipped, ofTold, ofSync, callOf};
+ghost use Rattle.probe.specs.Answers.{ofHolds, ofRead, ofMoved, ofSkipped, ofTold, ofSync, callOf, put};
 ghost use Rattle.probe.specs.Headers.{formatFrom, ofAttempt, headerCallOf, stored};
 
-// 01's number, a value, and the bit position afterwards.
+// 01's number, a value, and the bit position afterwards. A search also has the byte that it came to, and the bytes that it passed over.
 pub struct Answer {
     pub number: u32,
     pub value: usize,
     pub at: usize,
+    pub sync: usize,
+    pub skipped: usize,
 }
 
 fn of_holds(at: usize, h: Holds) -> Answer
@@ -30,16 +31,22 @@ fn of_holds(at: usize, h: Holds) -> Answer
             number: 0,
             value: 1,
             at,
+            sync: 0,
+            skipped: 0,
         },
         Holds::No => Answer {
             number: 0,
             value: 0,
             at,
+            sync: 0,
+            skipped: 0,
         },
         Holds::Refused(number) => Answer {
             number,
             value: 0,
             at,
+            sync: 0,
+            skipped: 0,
         },
     }
 }
@@ -52,16 +59,22 @@ fn of_read(at: usize, x: Read) -> Answer
             number: 0,
             value: value as usize,
             at: next.at.0,
+            sync: 0,
+            skipped: 0,
         },
         Read::Short => Answer {
             number: 12,
             value: 0,
             at,
+            sync: 0,
+            skipped: 0,
         },
         Read::Refused(number) => Answer {
             number,
             value: 0,
             at,
+            sync: 0,
+            skipped: 0,
         },
     }
 }
@@ -74,11 +87,15 @@ fn of_moved(at: usize, m: Moved) -> Answer
             number: 0,
             value: 0,
             at: next.at.0,
+            sync: 0,
+            skipped: 0,
         },
         Moved::Refused(number) => Answer {
             number,
             value: 0,
             at,
+            sync: 0,
+            skipped: 0,
         },
     }
 }
@@ -91,11 +108,15 @@ fn of_skipped(at: usize, k: Skipped) -> Answer
             number: 0,
             value,
             at: next.at.0,
+            sync: 0,
+            skipped: 0,
         },
         Skipped::Refused(number) => Answer {
             number,
             value: 0,
             at,
+            sync: 0,
+            skipped: 0,
         },
     }
 }
@@ -108,11 +129,15 @@ fn of_told(at: usize, t: Told) -> Answer
             number: 0,
             value: byte.0,
             at,
+            sync: 0,
+            skipped: 0,
         },
         Told::Refused(number) => Answer {
             number,
             value: 0,
             at,
+            sync: 0,
+            skipped: 0,
         },
     }
 }
@@ -121,20 +146,34 @@ fn of_sync(at: usize, f: Sync) -> Answer
     ensures { λ r. ⌜ r ≡ ofSync at f ⌝ }
 {
     match f {
-        Sync::Found(next) => Answer {
+        Sync::Found {
+            sync,
+            skipped,
+            next,
+        } => Answer {
             number: 0,
             value: 1,
             at: next.at.0,
+            sync: sync.0,
+            skipped,
         },
-        Sync::Missing(next) => Answer {
+        Sync::Missing {
+            sync,
+            skipped,
+            next,
+        } => Answer {
             number: 0,
             value: 0,
             at: next.at.0,
+            sync: sync.0,
+            skipped,
         },
         Sync::Refused(number) => Answer {
             number,
             value: 0,
             at,
+            sync: 0,
+            skipped: 0,
         },
     }
 }
@@ -155,31 +194,34 @@ fn reader_call(call: u32, stream: &[u8], at: usize, argument: usize) -> Answer
     }
 }
 
-// One call of the reader: its number is returned, the value and the bit position afterwards are left in `answer`.
+// One call of the reader: its number is returned; the value, the bit position afterwards, and a search's two bytes are left in `answer`.
 #[no_mangle]
 pub extern "C" fn reading_reader(
     call: u32,
     stream: &[u8],
     at: usize,
     argument: usize,
-    answer: &mut [usize; 2],
+    answer: &mut [usize; 4],
 ) -> u32
     ensures number { λ r. ⌜ r ≡ callOf call (now (stream .entry)) at argument .number ⌝ }
     ensures given { λ _. let a = callOf call (now (stream .entry)) at argument in
-        ⌜ now (answer .exit) ≡ set (set (now (answer .entry)) 0 (a .value)) 1 (a .at) ⌝ }
+        ⌜ now (answer .exit) ≡ put a (now (answer .entry)) ⌝ }
 {
     let a = reader_call(call, stream, at, argument);
     answer[0] = a.value;
     answer[1] = a.at;
+    answer[2] = a.sync;
+    answer[3] = a.skipped;
     a.number
 }
 
-// What an attempt at a header gives: 01's number, the bit position afterwards, a format, the pending data size.
+// What an attempt at a header gives: 01's number, the bit position afterwards, a format, the pending data size, the byte of the sync.
 pub struct Headed {
     pub number: u32,
     pub at: usize,
     pub format: Format,
     pub size: usize,
+    pub sync: usize,
 }
 
 // The format that four numbers stand for. The mode is 32 bits wide: of a larger number its low 32 bits count.
@@ -201,18 +243,21 @@ fn of_attempt(known: Format, attempt: Attempt) -> Headed
 {
     let header = attempt.header;
     let at = attempt.next.at.0;
+    let sync = attempt.sync.0;
     match header {
         Header::Accepted(format, size) => Headed {
             number: 0,
             at,
             format,
             size,
+            sync,
         },
         Header::Refused(number) => Headed {
             number,
             at,
             format: known,
             size: 0,
+            sync,
         },
     }
 }
@@ -224,7 +269,7 @@ fn header_call(stream: &[u8], at: usize, known: Format) -> Headed
     of_attempt(known, header::decode_header(stream, reader, known))
 }
 
-fn store(h: Headed, answer: &mut [usize; 6])
+fn store(h: Headed, answer: &mut [usize; 7])
     ensures { λ _. ⌜ now (answer .exit) ≡ stored h (now (answer .entry)) ⌝ }
 {
     let format = h.format;
@@ -234,16 +279,18 @@ fn store(h: Headed, answer: &mut [usize; 6])
     answer[3] = format.mode as usize;
     answer[4] = format.bound;
     answer[5] = h.size;
+    answer[6] = h.sync;
 }
 
 // One attempt at a header. `known`: sample-rate code (3: no header yet), bit-rate index, mode, bound. Its number is returned; `answer` has
-// the bit position afterwards, the format in the same order, and the pending data size: after a refusal the known format and 0.
+// the bit position afterwards, the format in the same order, and the pending data size: after a refusal the known format and 0. Behind
+// them stands the byte of the sync.
 #[no_mangle]
 pub extern "C" fn reading_header(
     stream: &[u8],
     at: usize,
     known: &[usize; 4],
-    answer: &mut [usize; 6],
+    answer: &mut [usize; 7],
 ) -> u32
     ensures number { λ r. ⌜ r ≡ headerCallOf (now (stream .entry)) at (formatFrom (now (known .entry))) .number ⌝ }
     ensures given { λ _. let h = headerCallOf (now (stream .entry)) at (formatFrom (now (known .entry))) in

@@ -8,7 +8,7 @@ use native.Mathlib.Omega.{arith}
 use lib.Ieee.{Float}
 use lib.ListN.{length}
 use borrow.Author.Tests.{lt-ltb, le-ltb}
-use Rattle.synthesis.specs.Slots.{memoryLength, outputLength}
+use Rattle.synthesis.specs.Slots.{memoryLength, outputLength, quiet}
 use Rattle.header.specs.Readings.{plain}
 use Rattle.header.specs.declared.Reading.{Reading}
 use Rattle.state.specs.declared.Audio.{Audio}
@@ -17,7 +17,7 @@ use Rattle.audio.specs.Calls.{openOf, openMemory, decodeMemory, decodeOutput}
 use Rattle.listing.specs.declared.Behind.{Behind}
 use Rattle.listing.specs.declared.Listed.{Listed}
 use Rattle.listing.specs.declared.Line.the-variants.{Long}
-use Rattle.listing.specs.Lines.{Shown, isLast, nextOf, shownFrom, openingShown, quiet, calledOf, shownOf}
+use Rattle.listing.specs.Lines.{Shown, isLast, nextOf, shownFrom, openingShown, carriedBy, calledOf, shownOf}
 use Rattle.listing.specs.Text.{textBy, textsOf, listingOf}
 use Rattle.scribe.specs.Next.{Next, Rest, rest-next, rest-behind, nothing-written, all-written}
 
@@ -30,16 +30,17 @@ texts-append behind (x ∷ xs) ys =
 
 -- the opening's line comes first, and behind it what the calls add
 module _ (behind : Behind) (s : List ℕ) (reading : Reading) (opened : Asked) (m : List Float) (short : length s ≤ 65536) (p : reading ≡ plain)
-    (e : opened ≡ openOf reading s (quiet memoryLength)) (f : m ≡ openMemory s (quiet memoryLength)) where
+    (e : opened ≡ openOf reading s (quiet memoryLength)) (f : m ≡ openMemory s (quiet memoryLength)) (carried : ℕ)
+    (g : carried ≡ carriedBy (opened .skipped) (opened .answer)) where
   abbrev openingText : List ℕ
-  openingText = textsOf behind (openingShown (opened .answer) (opened .state))
+  openingText = textsOf behind (openingShown (opened .skipped) (opened .answer) (opened .state))
 
   abbrev callsText : List ℕ
-  callsText = textsOf behind (shownFrom (length s / 2 + 2) s m (quiet outputLength) (opened .state))
+  callsText = textsOf behind (shownFrom (length s / 2 + 2) s m (quiet outputLength) carried (opened .state))
 
   begins : (at : ℕ) → at ≡ 0 → Rest (listingOf behind s) at (openingText ++ callsText)
   unfolding listingOf shownOf calledOf
-  begins at z = nothing-written z (rw (e, p, f, le-ltb 65536 (length s) short) (texts-append behind _ _))
+  begins at z = nothing-written z (rw (g, e, p, f, le-ltb 65536 (length s) short) (texts-append behind _ _))
 
   pub opening-next : (at : ℕ) → at ≡ 0 → Next (listingOf behind s) at openingText
   opening-next at z = rest-next openingText callsText (begins at z)
@@ -48,18 +49,18 @@ module _ (behind : Behind) (s : List ℕ) (reading : Reading) (opened : Asked) (
   calls-rest at then z l = rest-behind openingText callsText l (begins at z)
 
 -- then call by call: its line, and the rest, unless it was the last
-module _ (behind : Behind) (calls : ℕ) (s : List ℕ) (memory output : List Float) (a : Audio) {whole : List ℕ} {at : ℕ}
-    (left : Rest whole at (textsOf behind (shownFrom calls s memory output a))) where
+module _ (behind : Behind) (calls : ℕ) (s : List ℕ) (memory output : List Float) (carried : ℕ) (a : Audio) {whole : List ℕ} {at : ℕ}
+    (left : Rest whole at (textsOf behind (shownFrom calls s memory output carried a))) where
   pub none-left : calls ≡ 0 → at ≡ length whole
   unfolding textsOf shownFrom
   none-left z = all-written (rw z at left)
 
-  module _ (x : Listed) (m o : List Float) (some : 0 < calls) (e : x ≡ nextOf s memory output a) (f : m ≡ decodeMemory s memory output a)
+  module _ (x : Listed) (m o : List Float) (some : 0 < calls) (e : x ≡ nextOf s memory output carried a) (f : m ≡ decodeMemory s memory output a)
       (g : o ≡ decodeOutput s memory output a) where
     abbrev more : List Shown
-    more = shownFrom (calls - 1) s m o (x .state)
+    more = shownFrom (calls - 1) s m o 0 (x .state)
 
-    turn : (n : ℕ) → n ≡ calls → textsOf behind (shownFrom n s memory output a) ≡ textBy behind (x .line) o ++ textsOf behind (cond (isLast (x .line)) [] more)
+    turn : (n : ℕ) → n ≡ calls → textsOf behind (shownFrom n s memory output carried a) ≡ textBy behind (x .line) o ++ textsOf behind (cond (isLast (x .line)) [] more)
     unfolding textsOf shownFrom
     turn zero z = absurd (omega arith)
     turn (suc n) z = let y : calls - 1 ≡ n = omega arith in rw (y, e, f, g)

@@ -14,8 +14,8 @@ ghost use Rattle.scribe.specs.Next.{Next};
 // "An opening refused with 2 to 5 prints it too"; one refused with 1 is told by the first call.
 fn put_opening(stream: &[u8], behind: Behind, done: Written, opened: Asked) -> Written
     requires { ⌜ length (listingOf behind (now stream)) < 2 ^ 64 ⌝ }
-    requires { ⌜ Next (listingOf behind (now stream)) (done .bytes) (textsOf behind (openingShown (opened .answer) (opened .state))) ⌝ }
-    ensures { λ r. ⌜ r .bytes ≡ done .bytes + length (textsOf behind (openingShown (opened .answer) (opened .state))) ⌝ }
+    requires { ⌜ Next (listingOf behind (now stream)) (done .bytes) (textsOf behind (openingShown (opened .skipped) (opened .answer) (opened .state))) ⌝ }
+    ensures { λ r. ⌜ r .bytes ≡ done .bytes + length (textsOf behind (openingShown (opened .skipped) (opened .answer) (opened .state))) ⌝ }
 {
     let state = opened.state;
     let answer = opened.answer;
@@ -25,7 +25,11 @@ fn put_opening(stream: &[u8], behind: Behind, done: Written, opened: Asked) -> W
             if listing::is_told(number) {
                 let at = listing::byte_of(state);
                 let samples = [0.0f32; 0];
-                let line = Line::Refused { number, at };
+                let line = Line::Refused {
+                    number,
+                    at,
+                    skipped: opened.skipped,
+                };
                 return text::put_line(stream, behind, done, line, &samples);
             }
             done
@@ -33,7 +37,7 @@ fn put_opening(stream: &[u8], behind: Behind, done: Written, opened: Asked) -> W
     }
 }
 
-// "calls until 1 or 7": on n bytes at most n/2 + 1 calls come before.
+// "calls until 1 or 7": on n bytes at most n/2 + 1 calls come before. What the opening carries goes to one line.
 fn list(stream: &[u8], behind: Behind) -> Written
     requires { ⌜ length (now stream) ≤ 65536 ⌝ }
     ensures { λ r. ⌜ r .bytes ≡ length (listingOf behind (now (stream .entry))) ⌝ }
@@ -44,10 +48,12 @@ fn list(stream: &[u8], behind: Behind) -> Written
     let opened = audio::new(stream, &mut memory, reading);
     let mut done = put_opening(stream, behind, scribe::nothing_yet(), opened);
     let mut state = opened.state;
+    let mut carried = listing::carried(opened);
     let mut calls = stream.len() / 2 + 2;
     while 0 < calls {
         calls -= 1;
-        let listed = listing::next_line(state, stream, &mut memory, &mut output);
+        let listed = listing::next_line(state, stream, &mut memory, &mut output, carried);
+        carried = 0;
         state = listed.state;
         let line = listed.line;
         done = text::put_line(stream, behind, done, line, &output);

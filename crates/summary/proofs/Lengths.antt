@@ -7,8 +7,8 @@ use lib.Dec.{eqb, lit≤}
 use lib.ListN.{length, length-append}
 use Rattle.ground.specs.Tests.{by-test}
 use Rattle.listing.specs.Lines.{tooLong, linesOf}
-use Rattle.listing.specs.Summary.{countedText, hundredthsOf, secondsText, framesText, reasonText, refusalText, refusalsText, linesText, summaryOf}
-use Rattle.listing.specs.Tally.{firstOf, ratesIn, bytesIn, endIn}
+use Rattle.listing.specs.Summary.{countedText, hundredthsOf, secondsText, framesText, junkText, reasonText, refusalText, refusalsText, linesText, summaryOf}
+use Rattle.listing.specs.Tally.{firstOf, ratesIn, bytesIn, endIn, junkIn}
 use Rattle.listing.specs.Text.{bracketed}
 use Rattle.listing.specs.TextLaws.{short-number, short-reason}
 use Rattle.listing.specs.Words.{letters}
@@ -32,6 +32,12 @@ short-frames frames rate =
     by-test (λ (text : List ℕ). length text ≤ 100) (eqb frames 0) _ _ (λ _. lit≤ tt)
     (λ _. simp length-append (omega (arith, short-counted [] frames (letters " frame"), short-seconds (hundredthsOf frames rate))))
 
+short-junk : (bytes : ℕ) → length (junkText bytes) ≤ 50
+unfolding junkText
+short-junk bytes =
+    by-test (λ (text : List ℕ). length text ≤ 50) (eqb bytes 0) _ _ (λ _. omega arith)
+    (λ _. simp length-append (omega (arith, short-counted (letters "; ") bytes (letters " byte"))))
+
 short-told : (word : List ℕ) (n : ℕ) → length (reasonText word n) ≤ length word + 83
 unfolding reasonText bracketed
 short-told word n = simp length-append (omega (arith, short-number word n, short-reason n))
@@ -53,12 +59,13 @@ short-refusals lines n zero = omega arith
 short-refusals lines n (suc more) =
     simp length-append (omega (arith, short-refusal n (length (bytesIn n lines)) (firstOf (bytesIn n lines)), short-refusals lines (suc n) more))
 
-short-lines : (lines : List Line) → length (linesText lines) ≤ 1300
+short-lines : (lines : List Line) → length (linesText lines) ≤ 1350
 unfolding linesText
 short-lines lines =
     simp length-append (omega (
       arith,
       short-frames (length (ratesIn lines)) (firstOf (ratesIn lines)),
+      short-junk (junkIn lines),
       short-refusals lines 2 5,
       short-told (letters "; ended with ") (endIn lines),
     ))

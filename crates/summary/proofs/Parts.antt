@@ -8,8 +8,8 @@ use lib.Dec.{eqb}
 use lib.ListN.{length}
 use borrow.Author.Tests.{lt-ltb, le-ltb, eq-eqb, ne-eqb}
 use Rattle.listing.specs.Lines.{linesOf}
-use Rattle.listing.specs.Summary.{countedText, hundredthsOf, secondsText, framesText, reasonText, refusalText, refusalsText, linesText, summaryOf}
-use Rattle.listing.specs.Tally.{firstOf, ratesIn, bytesIn, endIn}
+use Rattle.listing.specs.Summary.{countedText, hundredthsOf, secondsText, framesText, junkText, reasonText, refusalText, refusalsText, linesText, summaryOf}
+use Rattle.listing.specs.Tally.{firstOf, ratesIn, bytesIn, endIn, junkIn}
 use Rattle.listing.specs.Text.{newline, numbered}
 use Rattle.listing.specs.Words.{letters}
 use Rattle.listing.specs.declared.Line.{Line}
@@ -31,6 +31,14 @@ pub some-frames : (frames rate : ℕ) → (frames ≡ 0 → ⊥)
     → framesText frames rate ≡ countedText [] frames (letters " frame") ++ secondsText (hundredthsOf frames rate)
 unfolding framesText
 some-frames frames rate e = rw (ne-eqb frames 0 e)
+
+pub no-junk : (bytes : ℕ) → bytes ≡ 0 → junkText bytes ≡ []
+unfolding junkText
+no-junk bytes e = rw (eq-eqb bytes 0 e)
+
+pub some-junk : (bytes : ℕ) → (bytes ≡ 0 → ⊥) → junkText bytes ≡ countedText (letters "; ") bytes (letters " byte") ++ letters " of junk in front"
+unfolding junkText
+some-junk bytes e = rw (ne-eqb bytes 0 e)
 
 pub no-refusal : (n count first : ℕ) → count ≡ 0 → refusalText n count first ≡ []
 unfolding refusalText
@@ -54,7 +62,7 @@ no-more lines n l = let e : 7 - n ≡ 0 = omega arith in ap (refusalsText lines 
 pub short-summary : (s : List ℕ) → length s ≤ 65536
     → summaryOf s
     ≡ framesText (length (ratesIn (linesOf s))) (firstOf (ratesIn (linesOf s)))
-    ++ (refusalsText (linesOf s) 2 5 ++ (reasonText (letters "; ended with ") (endIn (linesOf s)) ++ newline))
+    ++ (junkText (junkIn (linesOf s)) ++ (refusalsText (linesOf s) 2 5 ++ (reasonText (letters "; ended with ") (endIn (linesOf s)) ++ newline)))
 unfolding summaryOf linesText
 short-summary s l = rw (le-ltb 65536 (length s) l)
 

@@ -1,4 +1,4 @@
-// A stream in one line of words, on standard error: its frames, its refusals by their numbers, its end.
+// A stream in one line of words, on standard error: its frames, the junk in front, its refusals by their numbers, its end.
 use scribe::Whole;
 use scribe::Written;
 use tally::Kept;
@@ -6,17 +6,17 @@ ghost use mathlib.Core.Path.{_≡_};
 ghost use Prim.Native.Nat.{_+_, _^_, _≤_, _<_};
 ghost use lib.ListN.{length};
 ghost use Rattle.listing.specs.Lines.{linesOf};
-ghost use Rattle.listing.specs.Summary.{countedText, framesText, hundredthsOf, reasonText, refusalText, refusalsText, secondsText, summaryOf};
+ghost use Rattle.listing.specs.Summary.{countedText, framesText, hundredthsOf, junkText, reasonText, refusalText, refusalsText, secondsText, summaryOf};
 ghost use Rattle.scribe.specs.Next.{Next};
 ghost use Rattle.tally.specs.Tally.{tallyOf};
 
 // "1 frame", "2 frames".
-fn put_counted(stream: &[u8], done: Written, word: &[u8], n: u32, things: &[u8]) -> Written
+fn put_counted(stream: &[u8], done: Written, word: &[u8], n: u64, things: &[u8]) -> Written
     requires { ⌜ length (summaryOf (now stream)) < 2 ^ 64 ⌝ }
     requires { ⌜ Next (summaryOf (now stream)) (done .bytes) (countedText (now word) n (now things)) ⌝ }
     ensures { λ r. ⌜ r .bytes ≡ done .bytes + length (countedText (now (word .entry)) n (now (things .entry))) ⌝ }
 {
-    let counted = text::put_number(stream, Whole::Summary, done, word, n as u64);
+    let counted = text::put_number(stream, Whole::Summary, done, word, n);
     let named = scribe::put(stream, Whole::Summary, counted, things);
     if n == 1 {
         return named;
@@ -57,8 +57,21 @@ fn put_frames(stream: &[u8], done: Written, frames: Kept) -> Written
             b"0 frames: nothing was played",
         );
     }
-    let counted = put_counted(stream, done, b"", frames.count, b" frame");
+    let counted = put_counted(stream, done, b"", frames.count as u64, b" frame");
     put_seconds(stream, counted, hundredths(frames.count, frames.first))
+}
+
+// None is not told.
+fn put_junk(stream: &[u8], done: Written, bytes: usize) -> Written
+    requires { ⌜ length (summaryOf (now stream)) < 2 ^ 64 ⌝ }
+    requires { ⌜ Next (summaryOf (now stream)) (done .bytes) (junkText bytes) ⌝ }
+    ensures { λ r. ⌜ r .bytes ≡ done .bytes + length (junkText bytes) ⌝ }
+{
+    if bytes == 0 {
+        return done;
+    }
+    let counted = put_counted(stream, done, b"; ", bytes as u64, b" byte");
+    scribe::put(stream, Whole::Summary, counted, b" of junk in front")
 }
 
 // A number, and what it means.
@@ -82,7 +95,7 @@ fn put_refusal(stream: &[u8], done: Written, number: u32, refused: Kept) -> Writ
     if refused.count == 0 {
         return done;
     }
-    let counted = put_counted(stream, done, b"; ", refused.count, b" call");
+    let counted = put_counted(stream, done, b"; ", refused.count as u64, b" call");
     let named = put_reason(stream, counted, b" refused with ", number);
     text::put_number(
         stream,
@@ -118,9 +131,10 @@ fn put_lines(stream: &[u8]) -> Written
     let frames = tally.frames;
     let refused = tally.refused;
     let first = put_frames(stream, scribe::nothing_yet(), frames);
-    let second = put_refusals(stream, first, refused);
-    let third = put_reason(stream, second, b"; ended with ", tally.end);
-    scribe::put(stream, Whole::Summary, third, b"\n")
+    let second = put_junk(stream, first, tally.junk);
+    let third = put_refusals(stream, second, refused);
+    let fourth = put_reason(stream, third, b"; ended with ", tally.end);
+    scribe::put(stream, Whole::Summary, fourth, b"\n")
 }
 
 pub fn tell(stream: &[u8]) -> Written

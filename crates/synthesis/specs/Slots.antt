@@ -4,10 +4,10 @@
 use Prim.Native.Nat.{ℕ, zero, suc, _+_, _*_, _%_}
 use mathlib.Core.List.{List, _++_}
 use lib.IntN.{ℤ}
-use lib.ListN.{take, drop}
+use lib.ListN.{take, drop, replicate}
 use lib.Ieee.{Float}
 use Rattle.transform.specs.Transform.{idct}
-use Rattle.window.specs.Output.{outputOf, stores}
+use Rattle.window.specs.Output.{nought, outputOf, stores}
 
 -- ---- the ring position
 
@@ -49,6 +49,10 @@ memoryLength = 2048
 
 abbrev pub outputLength : ℕ
 outputLength = 2304
+
+-- +0.0, n times: what a program's memory and output are before an opening
+abbrev pub quiet : ℕ → List Float
+quiet n = replicate n nought
 
 -- a channel's ring, 0 being left and 1 right: the memory is the left ring, the right ring, the rest
 unfoldable pub ringOf : ℕ → List Float → List Float

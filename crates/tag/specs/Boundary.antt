@@ -8,16 +8,20 @@ use lib.Dec.{ltb}
 use lib.ListN.{length, take, drop, getD}
 use lib.IntN.{pos}
 use lib.Ieee.{Float, fin, nan, binary64, ofBits, toBits, isNan, div, ofInt}
-use Rattle.buffer.specs.Calls.{readerAt}
+use Rattle.ground.specs.First.{firstFrom}
+use Rattle.buffer.specs.Bits.{bitAt, bitsValue}
+use Rattle.buffer.specs.Calls.{readerAt, readOf, fieldOf, hasOf, skipBytesOf, searchOf}
+use Rattle.grammar.specs.Reads.{_>>=_, run}
+use Rattle.header.specs.Header.{headerOf, startOf, syncOf, seekOf, fieldsOf, identOf, ratesOf, restOf, modeOf, boundOf, checkOf, sizeOf}
 use Rattle.header.specs.Readings.{plain}
-use Rattle.synthesis.specs.Slots.{outputLength}
+use Rattle.synthesis.specs.Slots.{memoryLength, outputLength, quiet}
 use Rattle.riff.specs.Level.{wordsOf}
 use Rattle.clock.specs.Clock.{startTimeOf, sameBits, onTime}
-use Rattle.state.specs.State.{numbersOk, inRange}
+use Rattle.state.specs.State.{fresh, numbersOk, inRange}
 use Rattle.state.specs.declared.Audio.{Audio}
-use Rattle.verdict.specs.Verdict.{atOnceOf, knownOf}
+use Rattle.verdict.specs.Verdict.{attemptOf, atOnceOf, knownOf}
 use Rattle.verdict.specs.declared.Asked.{Asked}
-use Rattle.audio.specs.Calls.{openOf, openMemory, formatOf, decodeOf, decodeMemory, decodeOutput}
+use Rattle.audio.specs.Calls.{noRoomOf, openOf, openMemory, formatOf, decodeOf, decodeMemory, decodeOutput}
 use Rattle.header.specs.declared.Reading.{Reading}
 use Rattle.audio.specs.Numbers.{headingNumber, replyNumber, replyRate, replyKbps, replyMode, answerNumber, answerStart, answerBits, littleRoom}
 use Rattle.audio.specs.declared.Reply.{Reply}
@@ -30,11 +34,11 @@ use Rattle.tag.specs.declared.Played.{Played}
 
 -- ---- the state as three arrays
 
--- bit position, sample-rate code, bit-rate index, bound, pending data size, ring position. The last two are 0 and not read: the
--- seventh is kept for the end of the pending frame (02, E6), the eighth for the bytes that a call passed over (E2)
-abbrev pub placesOf : Audio → List ℕ
-placesOf a =
-    a .reader .at .0 ∷ a .format .samplerate ∷ a .format .bitrate ∷ a .format .bound ∷ a .pending ∷ a .ring ∷ 0 ∷ 0 ∷ []
+-- bit position, sample-rate code, bit-rate index, bound, pending data size, ring position. The last two are not read: the seventh is 0,
+-- kept for the end of the pending frame (02, E6); the eighth is an answer, the bytes that the call passed over (E2)
+abbrev pub placesOf : ℕ → Audio → List ℕ
+placesOf skipped a =
+    a .reader .at .0 ∷ a .format .samplerate ∷ a .format .bitrate ∷ a .format .bound ∷ a .pending ∷ a .ring ∷ 0 ∷ skipped ∷ []
 
 -- mode, frames, the choices. The others are 0 and not read: three are kept for the check word (E8), two are spare
 abbrev pub countsOf : Audio → List ℕ
@@ -62,9 +66,9 @@ stateOf places counts time =
       time = getD time 0 nan;
     }
 
--- a state that was written is the state that is read
-pub round-trip : (a : Audio) → stateOf (placesOf a) (countsOf a) (timeOf a) ≡ a
-round-trip a = refl
+-- a state that was written is the state that is read, whatever was passed over
+pub round-trip : (skipped : ℕ) (a : Audio) → stateOf (placesOf skipped a) (countsOf a) (timeOf a) ≡ a
+round-trip skipped a = refl
 
 -- a state saved when there were six places and two counts, widened with zeros, is that state, read plainly
 pub widened : (position samplerate bitrate bound pending ring mode frames : ℕ) (time : Float)
@@ -89,16 +93,16 @@ playedOf a = record { number = answerNumber a; start = answerStart a; bits = ans
 
 -- ---- what each call promises: the number that it returns, and what it leaves in all that it was lent
 
--- the arrays hold the state
-pub record HeldIn (a : Audio) (places counts : List ℕ) (time : List Float) : Type 0 where
-  pub places-hold : places ≡ placesOf a
+-- the arrays hold the state, and what the call passed over
+pub record HeldIn (skipped : ℕ) (a : Audio) (places counts : List ℕ) (time : List Float) : Type 0 where
+  pub places-hold : places ≡ placesOf skipped a
   pub counts-hold : counts ≡ countsOf a
   pub time-holds : time ≡ timeOf a
 
 -- an opening: its number, and the state
 pub record TagOpen (x : Asked) (number : ℕ) (places counts : List ℕ) (time : List Float) : Type 0 where
   pub number-is : number ≡ headingNumber (x .answer)
-  pub state-is : HeldIn (x .state) places counts time
+  pub state-is : HeldIn (x .skipped) (x .state) places counts time
 
 -- the question about the format
 module _ (s : List ℕ) (a : Audio) where
@@ -107,7 +111,7 @@ module _ (s : List ℕ) (a : Audio) where
 
   pub record TagFormat (number : ℕ) (places counts : List ℕ) (time : List Float) (rate kbps mode : List ℕ) : Type 0 where
     pub number-is : number ≡ named .number
-    pub state-is : HeldIn (formatOf s a .state) places counts time
+    pub state-is : HeldIn (formatOf s a .skipped) (formatOf s a .state) places counts time
     pub rate-is : rate ≡ named .rate ∷ []
     pub kbps-is : kbps ≡ named .kbps ∷ []
     pub mode-is : mode ≡ named .mode ∷ []
@@ -123,7 +127,7 @@ module _ (s : List ℕ) (memory output : List Float) (a : Audio) where
     pub number-is : number ≡ played .number
     pub memory-is : memory′ ≡ decodeMemory s memory output a
     pub output-is : output′ ≡ decodeOutput s memory output a
-    pub state-is : HeldIn (decoded .state) places counts time
+    pub state-is : HeldIn (decoded .skipped) (decoded .state) places counts time
     pub start-is : start ≡ played .start ∷ []
     pub bits-are : bits ≡ played .bits ∷ []
 
@@ -139,11 +143,11 @@ pub record TagSamples16 (output : List Float) (samples : List ℕ) (number : ℕ
 -- ---- call after call
 
 -- what one call left in the arrays, the next one reads
-pub read-back : {a : Audio} {places counts : List ℕ} {time : List Float} → HeldIn a places counts time → stateOf places counts time ≡ a
-read-back {a} {places} {counts} {time} h =
+pub read-back : {k : ℕ} {a : Audio} {places counts : List ℕ} {time : List Float} → HeldIn k a places counts time → stateOf places counts time ≡ a
+read-back {k} {a} {places} {counts} {time} h =
     ap (λ (xs : List ℕ). stateOf xs counts time) (h .places-hold)
-    ∙ ap (λ (xs : List ℕ). stateOf (placesOf a) xs time) (h .counts-hold)
-    ∙ ap (λ (xs : List Float). stateOf (placesOf a) (countsOf a) xs) (h .time-holds)
+    ∙ ap (λ (xs : List ℕ). stateOf (placesOf k a) xs time) (h .counts-hold)
+    ∙ ap (λ (xs : List Float). stateOf (placesOf k a) (countsOf a) xs) (h .time-holds)
 
 -- so tag_open and then tag_decode leave what `new` and then `decode` leave; and so on, from any state that a call has left
 pub open-then-decode : (r : Reading) (s : List ℕ) (memory output : List Float) {number : ℕ} {places counts : List ℕ} {time : List Float}
@@ -158,7 +162,7 @@ open-then-decode r s memory output told {number′} {memory′} {output′} {pla
 -- ---- the order of the places and counts, and their units
 
 -- at bit 832, 48,000 Hz, 192 kbps, dual channel, bound 12; five frames played, 100 bytes pending, the last slot at 768; the next frame
--- starts at 0.12 seconds, 5 times 1152 / 48000
+-- starts at 0.12 seconds, 5 times 1152 / 48000. Seven bytes were passed over
 abbrev example : Audio
 example =
     record {
@@ -170,11 +174,11 @@ example =
       time = ofBits binary64 0x3FBEB851EB851EB8;
     }
 
-pub order : (placesOf example ≡ 832 ∷ 1 ∷ 9 ∷ 12 ∷ 100 ∷ 768 ∷ 0 ∷ 0 ∷ []) × (countsOf example ≡ 2 ∷ 5 ∷ 17 ∷ 0 ∷ 0 ∷ 0 ∷ 0 ∷ 0 ∷ [])
+pub order : (placesOf 7 example ≡ 832 ∷ 1 ∷ 9 ∷ 12 ∷ 100 ∷ 768 ∷ 0 ∷ 7 ∷ []) × (countsOf example ≡ 2 ∷ 5 ∷ 17 ∷ 0 ∷ 0 ∷ 0 ∷ 0 ∷ 0 ∷ [])
 order = (refl, refl)
 
 -- hertz in `rate`, kilobits a second in `kbps`, and the mode's number; and the time is this state's, so it is in seconds
-pub units : TagFormat [] example 0 (placesOf example) (countsOf example) (timeOf example) (48000 ∷ []) (192 ∷ []) (2 ∷ [])
+pub units : TagFormat [] example 0 (placesOf 0 example) (countsOf example) (timeOf example) (48000 ∷ []) (192 ∷ []) (2 ∷ [])
 unfolding formatOf knownOf atOnceOf inRange numbersOk onTime sameBits startTimeOf isNan toBits ofBits div ofInt
 units =
     record {
@@ -184,6 +188,16 @@ units =
       kbps-is = refl;
       mode-is = refl;
     }
+
+-- a zero byte and another one in front of a header, 64 kbps, 48,000 Hz, mono: an opening passes two bytes over
+abbrev junk : List ℕ
+junk = 0x00 ∷ 0x01 ∷ 0xFF ∷ 0xFD ∷ 0x44 ∷ 0xC0 ∷ 0x00 ∷ 0x00 ∷ []
+
+pub two-passed : TagOpen (openOf plain junk (quiet memoryLength)) 0 (48 ∷ 1 ∷ 3 ∷ 0 ∷ 188 ∷ 0 ∷ 0 ∷ 2 ∷ [])
+    (3 ∷ 0 ∷ 0 ∷ 0 ∷ 0 ∷ 0 ∷ 0 ∷ 0 ∷ []) (fin false 0 (pos 0) ∷ [])
+unfolding openOf noRoomOf attemptOf fresh headerOf startOf syncOf seekOf searchOf hasOf skipBytesOf fieldOf readOf bitsValue bitAt firstFrom
+    run _>>=_ fieldsOf identOf ratesOf restOf modeOf boundOf checkOf sizeOf
+two-passed = record { number-is = refl; state-is = record { places-hold = refl; counts-hold = refl; time-holds = refl } }
 
 -- beside a refusal there are zeros
 pub zeros-beside : (namedOf (ReplyRefused 2) ≡ record { number = 2; rate = 0; kbps = 0; mode = 0 })

@@ -38,8 +38,9 @@ fn restore(places: &[usize; 8], counts: &[u32; 8], time: &[f64; 1]) -> Audio
     }
 }
 
-fn places_of(a: Audio) -> [usize; 8]
-    ensures { λ r. ⌜ r ≡ placesOf a ⌝ }
+// The last place is no part of the state: what the call passed over.
+fn places_of(a: Audio, skipped: usize) -> [usize; 8]
+    ensures { λ r. ⌜ r ≡ placesOf skipped a ⌝ }
 {
     let reader = a.reader;
     let f = a.format;
@@ -53,7 +54,7 @@ fn places_of(a: Audio) -> [usize; 8]
         pending,
         ring,
         0,
-        0,
+        skipped,
     ]
 }
 
@@ -91,7 +92,7 @@ pub extern "C" fn tag_open(
     let x = audio::new(stream, memory, header::reading_by(choices));
     let state = x.state;
     let answer = x.answer;
-    *places = places_of(state);
+    *places = places_of(state, x.skipped);
     *counts = counts_of(state);
     *time = [state.time];
     heading_number(answer)
@@ -142,7 +143,7 @@ pub extern "C" fn tag_format(
     let x = audio::format(restore(places, counts, time), stream);
     let state = x.state;
     let answer = x.answer;
-    *places = places_of(state);
+    *places = places_of(state, x.skipped);
     *counts = counts_of(state);
     *time = [state.time];
     let n = of_reply(answer);
@@ -195,7 +196,7 @@ pub extern "C" fn tag_decode(
     let x = audio::decode(restore(places, counts, time), stream, memory, output);
     let state = x.state;
     let answer = x.answer;
-    *places = places_of(state);
+    *places = places_of(state, x.skipped);
     *counts = counts_of(state);
     *time = [state.time];
     let p = of_answer(answer);

@@ -10,10 +10,10 @@ use borrow.Author.Tests.{eq-eqb, ne-eqb, ltb-true, ltb-false}
 use Rattle.ground.specs.Stores.{set-either}
 use Rattle.ground.specs.Table.{table, length-table, at-table, is-table}
 use Rattle.ground.specs.Tests.{by-test}
-use Rattle.listing.specs.Tally.{ratesOf, ratesIn, bytesOf, bytesIn, endOr, endFrom, endIn}
+use Rattle.listing.specs.Tally.{rateInLine, ratesIn, bytesOf, bytesIn, endOr, endFrom, endIn, skippedIn, junkIn}
 use Rattle.listing.specs.declared.Line.{Line}
 use Rattle.listing.specs.declared.Line.the-variants.{Frame, Refused, End, Long}
-use Rattle.tally.specs.Tally.{keptOf, keepOf, keepAt, addOf, tallyOf, Few}
+use Rattle.tally.specs.Tally.{keptOf, keepOf, keepAt, junkMore, addOf, tallyOf, Few}
 use Rattle.tally.specs.declared.Kept.{Kept}
 use Rattle.tally.specs.declared.Tally.{Tally}
 
@@ -29,6 +29,40 @@ end-more : (before : ℕ) (xs : List Line) (x : Line) → endFrom before (xs ++ 
 unfolding endFrom
 end-more before [] x = refl
 end-more before (y ∷ ys) x = end-more (endOr y before) ys x
+
+junk-of-one : (x : Line) → junkIn (x ∷ []) ≡ skippedIn x
+unfolding junkIn
+junk-of-one (Frame number at rate kbps mode bits time skipped) = refl
+junk-of-one (Refused number at skipped) = omega arith
+junk-of-one (End number at skipped) = omega arith
+junk-of-one Long = refl
+
+counts-too : (k frames junk n : ℕ) → k + cond (eqb frames 0) (junk + n) junk ≡ cond (eqb frames 0) (k + junk + n) (k + junk)
+counts-too k frames junk n = go (eqb frames 0)
+  where
+    go : (first : Bool) → k + cond first (junk + n) junk ≡ cond first (k + junk + n) (k + junk)
+    go true = omega arith
+    go false = refl
+
+-- one line more counts where no frame stands before it
+junk-more : (xs : List Line) (x : Line) → junkIn (xs ++ (x ∷ [])) ≡ junkMore (tallyOf xs) (skippedIn x)
+unfolding junkIn flatMap tallyOf
+junk-more [] x = omega (arith, junk-of-one x)
+junk-more (Frame number at rate kbps mode bits time skipped ∷ ys) x = rw (ne-eqb (suc (length (ratesIn ys))) 0 (λ e. omega arith))
+junk-more (Refused number at skipped ∷ ys) x =
+    ap (λ n. skipped + n) (junk-more ys x) ∙ counts-too skipped (length (ratesIn ys)) (junkIn ys) (skippedIn x)
+junk-more (End number at skipped ∷ ys) x =
+    ap (λ n. skipped + n) (junk-more ys x) ∙ counts-too skipped (length (ratesIn ys)) (junkIn ys) (skippedIn x)
+junk-more (Long ∷ ys) x = junk-more ys x
+
+none-more : (tally : Tally) → junkMore tally 0 ≡ tally .junk
+none-more tally = by-test (λ n. n ≡ tally .junk) (eqb (tally .frames .count) 0) _ _ (λ _. omega arith) (λ _. refl)
+
+pub junk-few : (xs : List Line) (x : Line) → junkIn (xs ++ (x ∷ [])) ≤ junkIn xs + skippedIn x
+unfolding tallyOf
+junk-few xs x =
+    rw (junk-more xs x)
+    (by-test (λ n. n ≤ junkIn xs + skippedIn x) (eqb (length (ratesIn xs)) 0) _ _ (λ _. omega arith) (λ _. omega arith))
 
 kept-more : (values : List ℕ) (value : ℕ) → keptOf (values ++ (value ∷ [])) ≡ keepOf (keptOf values) value
 kept-more [] value = refl
@@ -71,17 +105,19 @@ module _ (xs : List Line) (number at : ℕ) where
 
 pub added : (xs : List Line) (x : Line) → tallyOf (xs ++ (x ∷ [])) ≡ addOf (tallyOf xs) x
 unfolding tallyOf
-added xs (Frame number at rate kbps mode bits time) =
-    let x = Frame number at rate kbps mode bits time in
-    rw (flat-more ratesOf xs x, kept-more (ratesIn xs) rate, no-refusal xs x (λ n. refl), end-more 0 xs x)
-added xs (Refused number at) =
-    let x = Refused number at in
-    rw (flat-more ratesOf xs x, append-nil (ratesIn xs), end-more 0 xs x)
-    (ap {B = Tally} (λ refused. record { frames = keptOf (ratesIn xs); refused = refused; end = endIn xs })
+added xs (Frame number at rate kbps mode bits time skipped) =
+    let x = Frame number at rate kbps mode bits time skipped in
+    rw (flat-more rateInLine xs x, kept-more (ratesIn xs) rate, no-refusal xs x (λ n. refl), end-more 0 xs x, junk-more xs x)
+added xs (Refused number at skipped) =
+    let x = Refused number at skipped in
+    rw (flat-more rateInLine xs x, append-nil (ratesIn xs), end-more 0 xs x, junk-more xs x)
+    (ap {B = Tally} (λ refused. record { frames = keptOf (ratesIn xs); refused = refused; end = endIn xs; junk = junkMore (tallyOf xs) skipped })
     (same-table _ _ (λ n l. ap keptOf (flat-more (bytesOf n) xs x)) ∙ sym (refusal-kept xs number (at .0))))
-added xs (End number at) =
-    let x = End number at in rw (flat-more ratesOf xs x, append-nil (ratesIn xs), no-refusal xs x (λ n. refl), end-more 0 xs x)
-added xs Long = rw (flat-more ratesOf xs Long, append-nil (ratesIn xs), no-refusal xs Long (λ n. refl), end-more 0 xs Long)
+added xs (End number at skipped) =
+    let x = End number at skipped in
+    rw (flat-more rateInLine xs x, append-nil (ratesIn xs), no-refusal xs x (λ n. refl), end-more 0 xs x, junk-more xs x)
+added xs Long =
+    rw (flat-more rateInLine xs Long, append-nil (ratesIn xs), no-refusal xs Long (λ n. refl), end-more 0 xs Long, junk-more xs Long ∙ none-more (tallyOf xs))
 
 -- ---- no more are counted than there are lines
 
@@ -90,17 +126,17 @@ unfolding flatMap
 one-at-most f one [] = omega arith
 one-at-most f one (x ∷ xs) = omega (arith, length-append (f x) (flatMap f xs), one x, one-at-most f one xs)
 
-one-rate : (x : Line) → length (ratesOf x) ≤ 1
-one-rate (Frame number at rate kbps mode bits time) = omega arith
-one-rate (Refused number at) = omega arith
-one-rate (End number at) = omega arith
+one-rate : (x : Line) → length (rateInLine x) ≤ 1
+one-rate (Frame number at rate kbps mode bits time skipped) = omega arith
+one-rate (Refused number at skipped) = omega arith
+one-rate (End number at skipped) = omega arith
 one-rate Long = omega arith
 
 one-byte : (n : ℕ) (x : Line) → length (bytesOf n x) ≤ 1
-one-byte n (Frame number at rate kbps mode bits time) = omega arith
-one-byte n (Refused number at) =
+one-byte n (Frame number at rate kbps mode bits time skipped) = omega arith
+one-byte n (Refused number at skipped) =
     by-test (λ (bytes : List ℕ). length bytes ≤ 1) (eqb n number) _ _ (λ _. omega arith) (λ _. omega arith)
-one-byte n (End number at) = omega arith
+one-byte n (End number at skipped) = omega arith
 one-byte n Long = omega arith
 
 module _ (xs : List Line) (short : length xs < 100000) where
@@ -115,4 +151,4 @@ module _ (xs : List Line) (short : length xs < 100000) where
 
   pub few : (tallyOf xs .frames .count < 100000) × Few (tallyOf xs .refused)
   unfolding tallyOf
-  few = (omega (arith, one-at-most ratesOf one-rate xs), λ n. by-place n (ltb n 8) refl)
+  few = (omega (arith, one-at-most rateInLine one-rate xs), λ n. by-place n (ltb n 8) refl)

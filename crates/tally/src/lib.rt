@@ -3,11 +3,12 @@ use listing::Line;
 use verdict::Asked;
 use verdict::Heading;
 ghost use mathlib.Core.Path.{_≡_};
-ghost use Prim.Native.Nat.{_≤_, _<_};
+ghost use Prim.Native.Nat.{_+_, _^_, _≤_, _<_};
 ghost use lib.ListN.{length};
 ghost use mathlib.Core.List.{[]};
 ghost use Rattle.listing.specs.Lines.{linesIn, linesOf, openingShown};
-ghost use Rattle.tally.specs.Tally.{keepOf, keepAt, addOf, tallyOf, Few};
+ghost use Rattle.listing.specs.Tally.{skippedIn};
+ghost use Rattle.tally.specs.Tally.{keepOf, keepAt, junkMore, addOf, tallyOf, Few};
 
 // How many values there were, and the first of them.
 pub struct Kept {
@@ -15,11 +16,13 @@ pub struct Kept {
     pub first: usize,
 }
 
-// The frames with their rates; for each number below 8 the calls refused with it, with their bytes; the number that ended the listing.
+// The frames with their rates; for each number below 8 the calls refused with it, with their bytes; the number that ended the listing;
+// the bytes of junk in front.
 pub struct Tally {
     pub frames: Kept,
     pub refused: [Kept; 8],
     pub end: u32,
+    pub junk: usize,
 }
 
 // One value more.
@@ -51,11 +54,25 @@ fn keep_at(refused: [Kept; 8], number: usize, value: usize) -> [Kept; 8]
     kept
 }
 
+// What is passed over behind a frame may be the frame's own unused end: only what comes before the first is junk.
+fn more_junk(tally: Tally, line: Line) -> usize
+    requires { ⌜ tally .junk + skippedIn line < 2 ^ 64 ⌝ }
+    ensures { λ r. ⌜ r ≡ junkMore tally (skippedIn line) ⌝ }
+{
+    let frames = tally.frames;
+    if frames.count == 0 {
+        return tally.junk + listing::skipped(line);
+    }
+    tally.junk
+}
+
 // One line more.
 fn add(tally: Tally, line: Line) -> Tally
     requires { ⌜ (tally .frames .count < 100000) × Few (tally .refused) ⌝ }
+    requires { ⌜ tally .junk + skippedIn line < 2 ^ 64 ⌝ }
     ensures { λ r. ⌜ r ≡ addOf tally line ⌝ }
 {
+    let junk = more_junk(tally, line);
     let frames = tally.frames;
     let refused = tally.refused;
     let end = tally.end;
@@ -66,20 +83,23 @@ fn add(tally: Tally, line: Line) -> Tally
                 frames: more,
                 refused,
                 end,
+                junk,
             }
         }
-        Line::Refused { number, at } => {
+        Line::Refused { number, at, .. } => {
             let more = keep_at(refused, number as usize, at.0);
             Tally {
                 frames,
                 refused: more,
                 end,
+                junk,
             }
         }
         Line::End { number, .. } => Tally {
             frames,
             refused,
             end: number,
+            junk,
         },
         Line::Long => tally,
     }
@@ -94,11 +114,12 @@ fn nothing() -> Tally
         frames: none,
         refused,
         end: 0,
+        junk: 0,
     }
 }
 
 fn opening(opened: Asked) -> Tally
-    ensures { λ r. ⌜ r ≡ tallyOf (linesIn (openingShown (opened .answer) (opened .state))) ⌝ }
+    ensures { λ r. ⌜ r ≡ tallyOf (linesIn (openingShown (opened .skipped) (opened .answer) (opened .state))) ⌝ }
 {
     let state = opened.state;
     let answer = opened.answer;
@@ -107,7 +128,12 @@ fn opening(opened: Asked) -> Tally
         Heading::Refused(number) => {
             if listing::is_told(number) {
                 let at = listing::byte_of(state);
-                return add(nothing(), Line::Refused { number, at });
+                let line = Line::Refused {
+                    number,
+                    at,
+                    skipped: opened.skipped,
+                };
+                return add(nothing(), line);
             }
             nothing()
         }
@@ -124,10 +150,12 @@ pub fn count(stream: &[u8]) -> Tally
     let opened = audio::new(stream, &mut memory, reading);
     let mut tally = opening(opened);
     let mut state = opened.state;
+    let mut carried = listing::carried(opened);
     let mut calls = stream.len() / 2 + 2;
     while 0 < calls {
         calls -= 1;
-        let listed = listing::next_line(state, stream, &mut memory, &mut output);
+        let listed = listing::next_line(state, stream, &mut memory, &mut output, carried);
+        carried = 0;
         state = listed.state;
         let line = listed.line;
         tally = add(tally, line);

@@ -11,7 +11,7 @@ ghost use mathlib.Core.List.{_++_};
 ghost use Prim.Native.Nat.{_+_, _^_, _<_};
 ghost use lib.ListN.{length};
 ghost use Rattle.listing.specs.Text.{bareText, behindOf, bracketed, formatText, frameText, hexed, listingOf, marksOf, numbered, placeText, textBy, timeBits};
-ghost use Rattle.listing.specs.Words.{modeOf, reasonOf, wordsOf};
+ghost use Rattle.listing.specs.Words.{lineWords, modeWords, reasonOf};
 ghost use Rattle.scribe.specs.Next.{Next};
 ghost use Rattle.scribe.specs.Whole.{wholeOf};
 
@@ -47,7 +47,7 @@ fn put_hex(stream: &[u8], what: Whole, done: Written, word: &[u8], n: u64) -> Wr
     put_both(stream, what, done, word, &digits[..k])
 }
 
-// A number and a position.
+// A number, a position, and the bytes that were passed over.
 fn put_place(
     stream: &[u8],
     what: Whole,
@@ -55,13 +55,15 @@ fn put_place(
     word: &[u8],
     number: u32,
     at: BytePos,
+    skipped: usize,
 ) -> Written
     requires { ⌜ length (wholeOf what (now stream)) < 2 ^ 64 ⌝ }
-    requires { ⌜ Next (wholeOf what (now stream)) (done .bytes) (placeText (now word) number at) ⌝ }
-    ensures { λ r. ⌜ r .bytes ≡ done .bytes + length (placeText (now (word .entry)) number at) ⌝ }
+    requires { ⌜ Next (wholeOf what (now stream)) (done .bytes) (placeText (now word) number at skipped) ⌝ }
+    ensures { λ r. ⌜ r .bytes ≡ done .bytes + length (placeText (now (word .entry)) number at skipped) ⌝ }
 {
     let numbered = put_number(stream, what, done, word, number as u64);
-    put_number(stream, what, numbered, b" at ", at.0 as u64)
+    let placed = put_number(stream, what, numbered, b" at ", at.0 as u64);
+    put_number(stream, what, placed, b" skipped ", skipped as u64)
 }
 
 fn put_format(
@@ -93,14 +95,16 @@ fn put_frame(
     kbps: u32,
     mode: u32,
     bits: usize,
+    skipped: usize,
 ) -> Written
     requires { ⌜ length (wholeOf what (now stream)) < 2 ^ 64 ⌝ }
-    requires { ⌜ Next (wholeOf what (now stream)) (done .bytes) (frameText number at rate kbps mode bits) ⌝ }
-    ensures { λ r. ⌜ r .bytes ≡ done .bytes + length (frameText number at rate kbps mode bits) ⌝ }
+    requires { ⌜ Next (wholeOf what (now stream)) (done .bytes) (frameText number at rate kbps mode bits skipped) ⌝ }
+    ensures { λ r. ⌜ r .bytes ≡ done .bytes + length (frameText number at rate kbps mode bits skipped) ⌝ }
 {
     let numbered = put_number(stream, what, done, b"frame ", number as u64);
     let placed = put_number(stream, what, numbered, b" at ", at.0 as u64);
-    put_format(stream, what, placed, rate, kbps, mode, bits)
+    let told = put_format(stream, what, placed, rate, kbps, mode, bits);
+    put_number(stream, what, told, b" skipped ", skipped as u64)
 }
 
 // The bits of a start time; a NaN has no one pattern, and no start time is one.
@@ -155,8 +159,8 @@ pub fn put_reason(stream: &[u8], what: Whole, done: Written, number: u32) -> Wri
 
 fn put_mode(stream: &[u8], what: Whole, done: Written, mode: u32) -> Written
     requires { ⌜ length (wholeOf what (now stream)) < 2 ^ 64 ⌝ }
-    requires { ⌜ Next (wholeOf what (now stream)) (done .bytes) (modeOf mode) ⌝ }
-    ensures { λ r. ⌜ r .bytes ≡ done .bytes + length (modeOf mode) ⌝ }
+    requires { ⌜ Next (wholeOf what (now stream)) (done .bytes) (modeWords mode) ⌝ }
+    ensures { λ r. ⌜ r .bytes ≡ done .bytes + length (modeWords mode) ⌝ }
 {
     match mode {
         0 => scribe::put(stream, what, done, b"stereo"),
@@ -169,8 +173,8 @@ fn put_mode(stream: &[u8], what: Whole, done: Written, mode: u32) -> Written
 // What a line means.
 fn put_meaning(stream: &[u8], what: Whole, done: Written, line: Line) -> Written
     requires { ⌜ length (wholeOf what (now stream)) < 2 ^ 64 ⌝ }
-    requires { ⌜ Next (wholeOf what (now stream)) (done .bytes) (wordsOf line) ⌝ }
-    ensures { λ r. ⌜ r .bytes ≡ done .bytes + length (wordsOf line) ⌝ }
+    requires { ⌜ Next (wholeOf what (now stream)) (done .bytes) (lineWords line) ⌝ }
+    ensures { λ r. ⌜ r .bytes ≡ done .bytes + length (lineWords line) ⌝ }
 {
     match line {
         Line::Frame { mode, .. } => put_mode(stream, what, done, mode),
@@ -182,8 +186,8 @@ fn put_meaning(stream: &[u8], what: Whole, done: Written, line: Line) -> Written
 
 fn put_words(stream: &[u8], what: Whole, done: Written, line: Line) -> Written
     requires { ⌜ length (wholeOf what (now stream)) < 2 ^ 64 ⌝ }
-    requires { ⌜ Next (wholeOf what (now stream)) (done .bytes) (bracketed (wordsOf line)) ⌝ }
-    ensures { λ r. ⌜ r .bytes ≡ done .bytes + length (bracketed (wordsOf line)) ⌝ }
+    requires { ⌜ Next (wholeOf what (now stream)) (done .bytes) (bracketed (lineWords line)) ⌝ }
+    ensures { λ r. ⌜ r .bytes ≡ done .bytes + length (bracketed (lineWords line)) ⌝ }
 {
     let opened = scribe::put(stream, what, done, b" (");
     let told = put_meaning(stream, what, opened, line);
@@ -203,7 +207,7 @@ fn put_behind(stream: &[u8], behind: Behind, done: Written, line: Line, samples:
     }
 }
 
-// A line as 01 has it, up to its newline.
+// A line as 01 and E2 have it, up to its newline.
 fn put_bare(stream: &[u8], what: Whole, done: Written, line: Line) -> Written
     requires { ⌜ length (wholeOf what (now stream)) < 2 ^ 64 ⌝ }
     requires { ⌜ Next (wholeOf what (now stream)) (done .bytes) (bareText line) ⌝ }
@@ -217,10 +221,30 @@ fn put_bare(stream: &[u8], what: Whole, done: Written, line: Line) -> Written
             kbps,
             mode,
             bits,
+            skipped,
             ..
-        } => put_frame(stream, what, done, number, at, rate, kbps, mode, bits),
-        Line::Refused { number, at } => put_place(stream, what, done, b"refused ", number, at),
-        Line::End { number, at } => put_place(stream, what, done, b"end ", number, at),
+        } => put_frame(
+            stream,
+            what,
+            done,
+            number,
+            at,
+            rate,
+            kbps,
+            mode,
+            bits,
+            skipped,
+        ),
+        Line::Refused {
+            number,
+            at,
+            skipped,
+        } => put_place(stream, what, done, b"refused ", number, at, skipped),
+        Line::End {
+            number,
+            at,
+            skipped,
+        } => put_place(stream, what, done, b"end ", number, at, skipped),
         Line::Long => scribe::put(stream, what, done, b"long"),
     }
 }

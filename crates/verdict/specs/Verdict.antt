@@ -11,7 +11,7 @@ use Rattle.buffer.specs.Calls.{hasOf}
 use Rattle.buffer.specs.declared.Reader.{Reader}
 use Rattle.buffer.specs.declared.Holds.{Holds}
 use Rattle.buffer.specs.declared.Holds.the-variants.{Yes, No, Refused as HoldsRefused}
-use Rattle.header.specs.Header.{headerOf}
+use Rattle.header.specs.Header.{headerOf, passedBy}
 use Rattle.header.specs.declared.Attempt.{Attempt}
 use Rattle.header.specs.declared.Header.{Header}
 use Rattle.header.specs.declared.Header.the-variants.{Accepted, Refused as HeaderRefused}
@@ -21,39 +21,40 @@ use Rattle.verdict.specs.declared.Heading.{Heading}
 use Rattle.verdict.specs.declared.Heading.the-variants.{Known, Refused}
 use Rattle.verdict.specs.declared.Asked.{Asked}
 
-abbrev pub asked : Heading → Audio → Asked
-asked h a = record { answer = h; state = a }
+-- an answer and a state, with so many bytes passed over: 02, E2, "0 .. with no attempt"
+abbrev pub asked : ℕ → Heading → Audio → Asked
+asked skipped h a = record { answer = h; state = a; skipped = skipped }
 
 -- an accepted header is pending; a refused one moves the position and keeps the old format
-abbrev pub seeking : Audio → Reader → Header → Asked
-seeking a r (Accepted f size) = asked Known (pends r f size a)
-seeking a r (HeaderRefused n) = asked (Refused n) (standsAt r a)
+abbrev pub seeking : ℕ → Audio → Reader → Header → Asked
+seeking skipped a r (Accepted f size) = asked skipped Known (pends r f size a)
+seeking skipped a r (HeaderRefused n) = asked skipped (Refused n) (standsAt r a)
 
 abbrev pub tried : Audio → Attempt → Asked
-tried a t = seeking a (t .next) (t .header)
+tried a t = seeking (passedBy (a .reader) t) a (t .next) (t .header)
 
 unfoldable pub attemptOf : List ℕ → Audio → Asked
 attemptOf s a = tried a (headerOf s (a .reader) (a .format))
 
 -- the header that is pending, or else the next
 unfoldable pub headedOf : List ℕ → Audio → Asked
-headedOf s a = cond (eqb (a .pending) 0) (attemptOf s a) (asked Known a)
+headedOf s a = cond (eqb (a .pending) 0) (attemptOf s a) (asked 0 Known a)
 
--- 7: "fewer bits remain than 8 times its data size"
-abbrev pub holding : Audio → Holds → Asked
-holding a Yes = asked Known a
-holding a No = asked (Refused 7) a
-holding a (HoldsRefused n) = asked (Refused n) a
+-- 7: "fewer bits remain than 8 times its data size". What was passed over before the header is handed on
+abbrev pub holding : ℕ → Audio → Holds → Asked
+holding skipped a Yes = asked skipped Known a
+holding skipped a No = asked skipped (Refused 7) a
+holding skipped a (HoldsRefused n) = asked skipped (Refused n) a
 
-unfoldable pub enoughOf : List ℕ → Audio → Asked
-enoughOf s a = holding a (hasOf s (a .reader) (8 * a .pending))
+unfoldable pub enoughOf : List ℕ → ℕ → Audio → Asked
+enoughOf s skipped a = holding skipped a (hasOf s (a .reader) (8 * a .pending))
 
-abbrev pub goesOn : List ℕ → Heading → Audio → Asked
-goesOn s Known a = enoughOf s a
-goesOn s (Refused n) a = asked (Refused n) a
+abbrev pub goesOn : List ℕ → ℕ → Heading → Audio → Asked
+goesOn s skipped Known a = enoughOf s skipped a
+goesOn s skipped (Refused n) a = asked skipped (Refused n) a
 
 abbrev pub pended : List ℕ → Asked → Asked
-pended s h = goesOn s (h .answer) (h .state)
+pended s h = goesOn s (h .skipped) (h .answer) (h .state)
 
 -- 8, 9 or 10, before anything is read, for a memory and an output of so many values; or 0
 unfoldable pub atOnceOf : List ℕ → ℕ → ℕ → Audio → ℕ
@@ -63,7 +64,7 @@ atOnceOf s memory output a =
 
 -- what is asked next, where the number is 0; else it is given, and the state is the same
 abbrev pub unlessAtOnce : ℕ → Audio → Asked → Asked
-unlessAtOnce number a more = cond (eqb number 0) more (asked (Refused number) a)
+unlessAtOnce number a more = cond (eqb number 0) more (asked 0 (Refused number) a)
 
 -- all of it
 unfoldable pub readyOf : List ℕ → ℕ → ℕ → Audio → Asked
@@ -71,7 +72,7 @@ readyOf s memory output a = unlessAtOnce (atOnceOf s memory output a) a (pended 
 
 -- a question about the format (02, E7): the one that is known, else one attempt
 abbrev pub knowing : List ℕ → Audio → Asked
-knowing s a = cond (eqb (a .format .samplerate) 3) (attemptOf s a) (asked Known a)
+knowing s a = cond (eqb (a .format .samplerate) 3) (attemptOf s a) (asked 0 Known a)
 
 -- all of it: 8, then 10, then that. No memory and no output is lent, so none is too short
 unfoldable pub knownOf : List ℕ → Audio → Asked

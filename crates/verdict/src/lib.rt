@@ -17,16 +17,21 @@ pub enum Heading {
     Refused(u32),
 }
 
+// The answer, the state after it, and the bytes that were passed over as a header was sought: 0 where none was sought.
 pub struct Asked {
     pub answer: Heading,
     pub state: Audio,
+    pub skipped: usize,
 }
 
-// One header attempt: an accepted header is pending, a refused one moves the position and leaves the rest.
+// One header attempt: an accepted header is pending, a refused one moves the position and leaves the rest. 02, E2: from the aligned start
+// to the FF of the sync, or to the stream's end, so many bytes were passed over.
 pub fn attempt(a: Audio, stream: &[u8]) -> Asked
     ensures { λ x. ⌜ x ≡ attemptOf (now (stream .entry)) a ⌝ }
 {
+    let begin = a.reader.at.byte_after();
     let t = header::decode_header(stream, a.reader, a.format);
+    let skipped = t.sync.0 - begin.0;
     let h = t.header;
     let reader = t.next;
     let mut state = a;
@@ -38,11 +43,13 @@ pub fn attempt(a: Audio, stream: &[u8]) -> Asked
             Asked {
                 answer: Heading::Known,
                 state,
+                skipped,
             }
         }
         Header::Refused(number) => Asked {
             answer: Heading::Refused(number),
             state,
+            skipped,
         },
     }
 }
@@ -57,13 +64,14 @@ fn headed(a: Audio, stream: &[u8]) -> Asked
     Asked {
         answer: Heading::Known,
         state: a,
+        skipped: 0,
     }
 }
 
-// Whether the pending header's data remain.
-fn enough(a: Audio, stream: &[u8]) -> Asked
+// Whether the pending header's data remain. What was passed over before is handed on.
+fn enough(a: Audio, stream: &[u8], skipped: usize) -> Asked
     requires { ⌜ a .pending ≤ mostData ⌝ }
-    ensures { λ x. ⌜ x ≡ enoughOf (now (stream .entry)) a ⌝ }
+    ensures { λ x. ⌜ x ≡ enoughOf (now (stream .entry)) skipped a ⌝ }
 {
     let reader = a.reader;
     let h = reader.has(stream, 8 * a.pending);
@@ -71,14 +79,17 @@ fn enough(a: Audio, stream: &[u8]) -> Asked
         Holds::Yes => Asked {
             answer: Heading::Known,
             state: a,
+            skipped,
         },
         Holds::No => Asked {
             answer: Heading::Refused(7),
             state: a,
+            skipped,
         },
         Holds::Refused(number) => Asked {
             answer: Heading::Refused(number),
             state: a,
+            skipped,
         },
     }
 }
@@ -111,16 +122,18 @@ pub fn ready(a: Audio, stream: &[u8], memory: usize, output: usize) -> Asked
         return Asked {
             answer: Heading::Refused(number),
             state: a,
+            skipped: 0,
         };
     }
     let h = headed(a, stream);
     let state = h.state;
     let answer = h.answer;
     match answer {
-        Heading::Known => enough(state, stream),
+        Heading::Known => enough(state, stream, h.skipped),
         Heading::Refused(n) => Asked {
             answer: Heading::Refused(n),
             state,
+            skipped: h.skipped,
         },
     }
 }
@@ -134,6 +147,7 @@ pub fn known(a: Audio, stream: &[u8]) -> Asked
         return Asked {
             answer: Heading::Refused(number),
             state: a,
+            skipped: 0,
         };
     }
     let f = a.format;
@@ -143,5 +157,6 @@ pub fn known(a: Audio, stream: &[u8]) -> Asked
     Asked {
         answer: Heading::Known,
         state: a,
+        skipped: 0,
     }
 }

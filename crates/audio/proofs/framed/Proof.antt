@@ -27,7 +27,7 @@ unfolding framedMemory framedOutput
 returns c =
     let at-end = c .before in
     let e = at-end .before .before .before .before .before .decode-frame .ensures in
-    (frames _ _ _ _ (e .end-is) (e .ring-is) _ (c .after .ensures), (e .memory-is, e .output-is))
+    (frames _ _ _ _ _ (e .end-is) (e .ring-is) _ (c .after .ensures), (e .memory-is, e .output-is))
 
 pub framed-spec : {M : Type 1} → statement M
 framed-spec =

@@ -9,7 +9,7 @@ use Rattle.buffer.proofs.first_pair.Statement.{statement}
 use Rattle.buffer.proofs.first_pair.Tie as tie
 
 abbrev Inv-loop : tie.InvT-loop
-Inv-loop s last i₀ i = (firstFrom (pairAt s) (length s - 1 - i) i ≡ stopOf s i₀) × (i ≤ i₀ + length s)
+Inv-loop s last i₀ i = (firstFrom (pairAt s) (length s - 1 - i) i ≡ stopOf s i₀) × (i₀ ≤ i) × (i ≤ i₀ + length s)
 
 abbrev μ-loop : tie.MeasureT-loop
 μ-loop s last i₀ i = last - i
@@ -42,6 +42,7 @@ loop-again : tie.Need-loop-again Inv-loop μ-loop
 loop-again c = (
   first-later _ _ _ _ (omega arith) (sym (c .before .is-sync .ensures)
       ∙ c .if2 .left) (c .before .before .before .before .before .loop .inv .0),
+  omega arith,
   omega arith,
 )
 

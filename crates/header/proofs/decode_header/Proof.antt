@@ -19,9 +19,10 @@ enum-known-start-2 c = search needs
 returns : tie.Need-returns
 unfolding headerOf
 returns c =
-    ap attempt (c .read-fields .ensures)
-    ∙ ap (byStart _ _) (sym (c .before .before .start .given .1)
-    ∙ c .before .before .before .before .find-start .ensures)
+    let at-fields = c .before in
+    ap (attempt _) (at-fields .read-fields .ensures)
+    ∙ ap (byStart _ _) (sym (at-fields .before .before .start .given .1)
+    ∙ at-fields .before .before .before .before .find-start .ensures)
 
 returns-2 : tie.Need-returns-2
 unfolding headerOf

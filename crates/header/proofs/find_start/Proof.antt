@@ -10,16 +10,24 @@ has-requires c κs = search needs
 enum-told : tie.Need-enum-told
 enum-told c = search needs
 
+unsought-requires : tie.Need-unsought-requires
+unsought-requires c κs = search needs
+
 returns : tie.Need-returns
 unfolding startOf
-returns c = ap (byHas _ _) (sym (c .enum-told .given .1) ∙ c .before .before .has .ensures)
+returns c = c .unsought .ensures ∙ ap (byHas _ _) (sym (c .before .enum-told .given .1) ∙ c .before .before .before .has .ensures)
 
 enum-known-enough : tie.Need-enum-known-enough
 enum-known-enough c = search needs
 
+unsought-requires-2 : tie.Need-unsought-requires-2
+unsought-requires-2 c κs = search needs
+
 returns-2 : tie.Need-returns-2
 unfolding startOf
-returns-2 c = ap (byHas _ _) (sym (c .before .enough .given .1) ∙ c .before .before .before .has .ensures)
+returns-2 c =
+    c .unsought2 .ensures
+    ∙ ap (byHas _ _) (sym (c .before .before .enough .given .1) ∙ c .before .before .before .before .has .ensures)
 
 enum-told-2 : tie.Need-enum-told-2
 enum-told-2 c = search needs
@@ -36,6 +44,9 @@ sync-requires c κs = search needs
 enum-known-zeros-2 : tie.Need-enum-known-zeros-2
 enum-known-zeros-2 c = search needs
 
+unsought-requires-3 : tie.Need-unsought-requires-3
+unsought-requires-3 c κs = search needs
+
 returns-3 : tie.Need-returns-3
 unfolding startOf
 returns-3 c =
@@ -48,9 +59,10 @@ returns-3 c =
 returns-4 : tie.Need-returns-4
 unfolding startOf
 returns-4 c =
-    let at-skip = c .before .before .before in
+    let at-skip = c .before .before .before .before in
     let at-has = at-skip .before .before .before in
-    ap (bySkip _ _) (sym (c .before .zeros2 .given .1) ∙ at-skip .skip-bytes .ensures)
+    c .unsought3 .ensures
+    ∙ ap (bySkip _ _) (sym (c .before .before .zeros2 .given .1) ∙ at-skip .skip-bytes .ensures)
     ∙ ap (byHas _ _) (sym (at-skip .before .enum-told2 .given .1) ∙ at-has .has .ensures)
 
 pub find-start-spec : {M : Type 1} → statement M
@@ -59,13 +71,16 @@ find-start-spec =
     (tie.spec
     has-requires
     enum-told
+    unsought-requires
     returns
     enum-known-enough
+    unsought-requires-2
     returns-2
     enum-told-2
     skip-bytes-requires
     enum-known-zeros
     sync-requires
     enum-known-zeros-2
+    unsought-requires-3
     returns-3
     returns-4)

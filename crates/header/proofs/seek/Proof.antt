@@ -16,6 +16,9 @@ enum-known-found-2 c = search needs
 enum-known-found-3 : tie.Need-enum-known-found-3
 enum-known-found-3 c = search needs
 
+unsought-requires : tie.Need-unsought-requires
+unsought-requires c κs = search needs
+
 returns : tie.Need-returns
 unfolding seekOf
 returns c = ap (bySearch _) (sym (c .before .found .given .1) ∙ c .before .before .before .find-frame-sync .ensures)
@@ -26,7 +29,9 @@ returns-2 c = ap (bySearch _) (sym (c .before .found2 .given .1) ∙ c .before .
 
 returns-3 : tie.Need-returns-3
 unfolding seekOf
-returns-3 c = ap (bySearch _) (sym (c .before .found3 .given .1) ∙ c .before .before .before .find-frame-sync .ensures)
+returns-3 c =
+    c .unsought .ensures
+    ∙ ap (bySearch _) (sym (c .before .before .found3 .given .1) ∙ c .before .before .before .before .find-frame-sync .ensures)
 
 pub seek-spec : {M : Type 1} → statement M
 seek-spec =
@@ -36,6 +41,7 @@ seek-spec =
     enum-known-found
     enum-known-found-2
     enum-known-found-3
+    unsought-requires
     returns
     returns-2
     returns-3)

@@ -11,10 +11,10 @@ use borrow.Author.Needs.{needs}
 use Rattle.listing.proofs.line_of.Statement.{statement}
 use Rattle.listing.proofs.line_of.Tie as tie
 
-frame-line : (number bits rate kbps : ℕ) (time : Float) (a : Audio) (end at : BytePos) → end ≡ bytePosition a → at ≡ byteBefore end bits
+frame-line : (number bits rate kbps skipped : ℕ) (time : Float) (a : Audio) (end at : BytePos) → end ≡ bytePosition a → at ≡ byteBefore end bits
     → rate ≡ rateOf (a .format .samplerate) → kbps ≡ kbpsOf (a .format .bitrate)
-    → Frame number at rate kbps (a .format .mode) bits time ≡ lineBy number (FrameAnswer time bits) a
-frame-line number bits rate kbps time a end at e f g h = rw (f, e, g, h)
+    → Frame number at rate kbps (a .format .mode) bits time skipped ≡ lineBy number skipped (FrameAnswer time bits) a
+frame-line number bits rate kbps skipped time a end at e f g h = rw (f, e, g, h)
 
 byte-of-requires : tie.Need-byte-of-requires
 byte-of-requires c κs = search needs
@@ -41,19 +41,21 @@ returns : tie.Need-returns
 returns c =
     let refusal = c .before .before .before in
     let told = refusal .answer2 .given in
-    rw (told .1, sym (c .before .ends .ensures) ∙ c .if1 .taken) (ap (End (told .0 .0)) (refusal .before .before .byte-of .ensures))
+    let skipped = refusal .before .before .before .before .args .skipped in
+    rw (told .1, sym (c .before .ends .ensures) ∙ c .if1 .taken) (ap (λ at. End (told .0 .0) at skipped) (refusal .before .before .byte-of .ensures))
 
 returns-2 : tie.Need-returns-2
 returns-2 c =
     let frame = c .before .before .before .before in
-    rw (frame .answer .given .1) (frame-line _ _ _ _ _ (frame .before .before .before .before .args .state) _ _ (frame .before .before .byte-of .ensures) (c .before .before .byte-before .ensures)
+    rw (frame .answer .given .1) (frame-line _ _ _ _ _ _ (frame .before .before .before .before .args .state) _ _ (frame .before .before .byte-of .ensures) (c .before .before .byte-before .ensures)
     (c .before .rate .ensures) (c .kbps .ensures))
 
 returns-3 : tie.Need-returns-3
 returns-3 c =
     let refusal = c .before .before .before in
     let told = refusal .answer2 .given in
-    rw (told .1, sym (c .before .ends .ensures) ∙ c .if1 .left) (ap (Refused (told .0 .0)) (refusal .before .before .byte-of .ensures))
+    let skipped = refusal .before .before .before .before .args .skipped in
+    rw (told .1, sym (c .before .ends .ensures) ∙ c .if1 .left) (ap (λ at. Refused (told .0 .0) at skipped) (refusal .before .before .byte-of .ensures))
 
 pub line-of-spec : {M : Type 1} → statement M
 line-of-spec =

@@ -1,10 +1,12 @@
-use mathlib.Core.Path.{_≡_}
+use Prim.Native.Nat.{_≤_}
+use mathlib.Core.Path.{_≡_, refl}
 use native.Mathlib.Omega.{arith}
 use lib.Ieee.{ofBits}
 use lib.ListN.{length}
 use borrow.Author.Needs.{needs}
 use Rattle.synthesis.specs.Slots.{memoryLength, outputLength}
 use Rattle.listing.specs.Lines.{shownFrom}
+use Rattle.listing.specs.LinesLaws.{opening-carries-few}
 use Rattle.listing.specs.Text.{textsOf, listingOf}
 use Rattle.scribe.specs.Next.{Rest}
 use Rattle.report.proofs.Lengths.{listing-fits}
@@ -14,12 +16,12 @@ use Rattle.report.proofs.list.Tie as tie
 
 -- what is left to write is what the calls that are left will give
 abbrev Inv-loop : tie.InvT-loop
-Inv-loop stream behind memory₀ output₀ done₀ state₀ calls₀ memory output done state calls =
-    (length memory ≡ memoryLength) × (length output ≡ outputLength)
-    × Rest (listingOf behind stream) (done .bytes) (textsOf behind (shownFrom calls stream memory output state))
+Inv-loop stream behind memory₀ output₀ done₀ state₀ carried₀ calls₀ memory output done state carried calls =
+    (length memory ≡ memoryLength) × (length output ≡ outputLength) × (carried ≤ length stream)
+    × Rest (listingOf behind stream) (done .bytes) (textsOf behind (shownFrom calls stream memory output carried state))
 
 abbrev μ-loop : tie.MeasureT-loop
-μ-loop stream behind memory₀ output₀ done₀ state₀ calls₀ memory output done state calls = calls
+μ-loop stream behind memory₀ output₀ done₀ state₀ carried₀ calls₀ memory output done state carried calls = calls
 
 plain-requires : tie.Need-plain-requires Inv-loop μ-loop
 plain-requires c κs = search needs
@@ -39,7 +41,10 @@ put-opening-requires c κs =
     let at-new = c .before .before in
     let entry = at-new .before .before .before .before in
     let e = at-new .new .ensures in
-    (listing-fits _ _, opening-next _ _ _ _ _ (entry .pre) (at-new .before .before .plain .ensures) (e .0) (e .1) _ (c .nothing-yet .ensures .0))
+    (listing-fits _ _, opening-next _ _ _ _ _ (entry .pre) (at-new .before .before .plain .ensures) (e .0) (e .1) _ refl _ (c .nothing-yet .ensures .0))
+
+carried-requires : tie.Need-carried-requires Inv-loop μ-loop
+carried-requires c κs = search needs
 
 add-calls : tie.Need-add-calls Inv-loop μ-loop
 add-calls c = search needs
@@ -47,14 +52,16 @@ add-calls c = search needs
 loop-holds : tie.Need-loop-holds Inv-loop μ-loop
 unfolding ofBits
 loop-holds c =
-    let begun = c .before .before in
+    let begun = c .before .before .before in
     let at-new = begun .before .before in
     let entry = at-new .before .before .before .before in
     let e = at-new .new .ensures in
     let plainly = at-new .before .before .plain .ensures in (
       search needs,
       search needs,
-      calls-rest _ _ _ _ _ (entry .pre) plainly (e .0) (e .1) _ _ (begun .nothing-yet .ensures .0) (c .before .put-opening .ensures),
+      opening-carries-few _ _ _ _ _ (e .0) (c .carried .ensures),
+      calls-rest _ _ _ _ _ (entry .pre) plainly (e .0) (e .1) _ (c .carried .ensures) _ _ (begun .nothing-yet .ensures .0)
+          (c .before .before .put-opening .ensures),
     )
 
 sub-calls : tie.Need-sub-calls Inv-loop μ-loop
@@ -77,7 +84,7 @@ put-line-requires c κs =
     let called = c .before .before .before .before in
     let head = called .before .before .before .before in
     let e = called .next-line .ensures in
-    (listing-fits _ _, line-next _ _ _ _ _ _ (head .loop .inv .2) _ _ _ (omega arith) (e .0) (e .1 .0) (e .1 .1))
+    (listing-fits _ _, line-next _ _ _ _ _ _ _ (head .loop .inv .3) _ _ _ (omega arith) (e .0) (e .1 .0) (e .1 .1))
 
 is-last-requires : tie.Need-is-last-requires Inv-loop μ-loop
 is-last-requires c κs = search needs
@@ -93,12 +100,13 @@ loop-again c =
     let e = called .next-line .ensures in (
       search needs,
       search needs,
-      after-other _ _ _ _ _ _ (head .loop .inv .2) _ _ _ (omega arith) (e .0) (e .1 .0) (e .1 .1) _ _ (put .put-line .ensures) (c .before .is-last .ensures)
+      search needs,
+      after-other _ _ _ _ _ _ _ (head .loop .inv .3) _ _ _ (omega arith) (e .0) (e .1 .0) (e .1 .1) _ _ (put .put-line .ensures) (c .before .is-last .ensures)
           (c .if1 .left),
     )
 
 returns : tie.Need-returns Inv-loop μ-loop
-returns c = none-left _ _ _ _ _ _ (c .before .loop .inv .2) (omega arith)
+returns c = none-left _ _ _ _ _ _ _ (c .before .loop .inv .3) (omega arith)
 
 returns-2 : tie.Need-returns-2 Inv-loop μ-loop
 returns-2 c =
@@ -106,7 +114,7 @@ returns-2 c =
     let called = put .before .before .before .before .before in
     let head = called .before .before .before .before in
     let e = called .next-line .ensures in
-    after-last _ _ _ _ _ _ (head .loop .inv .2) _ _ _ (omega arith) (e .0) (e .1 .0) (e .1 .1) _ _ (put .put-line .ensures) (c .before .is-last .ensures)
+    after-last _ _ _ _ _ _ _ (head .loop .inv .3) _ _ _ (omega arith) (e .0) (e .1 .0) (e .1 .1) _ _ (put .put-line .ensures) (c .before .is-last .ensures)
     (c .if1 .taken)
 
 pub list-spec : {M : Type 1} → statement M
@@ -120,6 +128,7 @@ list-spec =
     new-requires
     nothing-yet-requires
     put-opening-requires
+    carried-requires
     add-calls
     loop-holds
     sub-calls

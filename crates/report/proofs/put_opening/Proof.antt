@@ -17,17 +17,17 @@ use Rattle.scribe.specs.Next.{Next}
 use Rattle.report.proofs.put_opening.Statement.{statement}
 use Rattle.report.proofs.put_opening.Tie as tie
 
-module _ (behind : Behind) (answer : Heading) (a : Audio) where
-  known : answer ≡ Known → textsOf behind (openingShown answer a) ≡ []
+module _ (behind : Behind) (k : ℕ) (answer : Heading) (a : Audio) where
+  known : answer ≡ Known → textsOf behind (openingShown k answer a) ≡ []
   unfolding textsOf
   known e = rw e
 
   module _ (n : ℕ) (told : Bool) (e : answer ≡ Refused n) (t : told ≡ openingTold n) where
-    untold : told ≡ false → textsOf behind (openingShown answer a) ≡ []
+    untold : told ≡ false → textsOf behind (openingShown k answer a) ≡ []
     unfolding textsOf
     untold h = rw (e, sym t ∙ h)
 
-    refusal : (at : BytePos) → at ≡ bytePosition a → told ≡ true → textsOf behind (openingShown answer a) ≡ textBy behind (RefusedLine n at) []
+    refusal : (at : BytePos) → at ≡ bytePosition a → told ≡ true → textsOf behind (openingShown k answer a) ≡ textBy behind (RefusedLine n at k) []
     unfolding textsOf
     refusal at p h = rw (e, sym t ∙ h, p) (append-nil _)
 
@@ -44,11 +44,11 @@ byte-of-requires : tie.Need-byte-of-requires
 byte-of-requires c κs = search needs
 
 text-is : (c : tie.After-byte-of) → let matched = c .before .before .before .before in let a = matched .before .before .before .before .args in
-    textsOf (a .behind) (openingShown (a .opened .answer) (a .opened .state))
-    ≡ textBy (a .behind) (RefusedLine (matched .answer .given .0 .0) (c .byte-of .result)) []
+    textsOf (a .behind) (openingShown (a .opened .skipped) (a .opened .answer) (a .opened .state))
+    ≡ textBy (a .behind) (RefusedLine (matched .answer .given .0 .0) (c .byte-of .result) (a .opened .skipped)) []
 text-is c =
     let asked = c .before .before in
-    refusal _ _ _ _ _ (asked .before .before .answer .given .1) (asked .is-told .ensures) _ (c .byte-of .ensures) (c .before .if1 .taken)
+    refusal _ _ _ _ _ _ (asked .before .before .answer .given .1) (asked .is-told .ensures) _ (c .byte-of .ensures) (c .before .if1 .taken)
 
 slice-aggregate-put-line : tie.Need-slice-aggregate-put-line
 slice-aggregate-put-line c = search needs
@@ -65,7 +65,7 @@ returns c = omega (arith, c .put-line .ensures, ap length (text-is (c .before .b
 returns-2 : tie.Need-returns-2
 returns-2 c =
     let a = c .before .before .before .before .args in
-    omega (arith, ap length (known (a .behind) (a .opened .answer) (a .opened .state) (c .enum-told .given .1)))
+    omega (arith, ap length (known (a .behind) (a .opened .skipped) (a .opened .answer) (a .opened .state) (c .enum-told .given .1)))
 
 returns-3 : tie.Need-returns-3
 returns-3 c =
@@ -73,7 +73,7 @@ returns-3 c =
     let a = matched .before .before .before .before .args in
     omega (
       arith,
-      ap length (untold (a .behind) (a .opened .answer) (a .opened .state) _ _ (matched .answer .given .1) (c .before .is-told .ensures) (c .if1 .left)),
+      ap length (untold (a .behind) (a .opened .skipped) (a .opened .answer) (a .opened .state) _ _ (matched .answer .given .1) (c .before .is-told .ensures) (c .if1 .left)),
     )
 
 pub put-opening-spec : {M : Type 1} → statement M

@@ -32,19 +32,22 @@ returns c =
 slice-aggregate-put-counted : tie.Need-slice-aggregate-put-counted
 slice-aggregate-put-counted c = search needs
 
+cast-put-counted : tie.Need-cast-put-counted
+cast-put-counted c = search needs
+
 slice-aggregate-put-counted-2 : tie.Need-slice-aggregate-put-counted-2
 slice-aggregate-put-counted-2 c = search needs
 
 put-counted-requires : tie.Need-put-counted-requires
 put-counted-requires c κs =
-    let asked = c .before .before in (asked .before .before .before .pre .0, first-next _ _ (both-next asked))
+    let asked = c .before .before .before in (asked .before .before .before .pre .0, first-next _ _ (both-next asked))
 
 hundredths-requires : tie.Need-hundredths-requires
 hundredths-requires c κs = search needs
 
 put-seconds-requires : tie.Need-put-seconds-requires
 put-seconds-requires c κs =
-    let asked = c .before .before .before .before in
+    let asked = c .before .before .before .before .before in
     let entry = asked .before .before .before in
     let behind = second-next (countedText [] (entry .args .frames .count) (letters " frame")) _ (c .before .put-counted .ensures) (both-next asked) in
     (entry .pre .0, subst (Next _ _) (ap secondsText (sym (c .hundredths .ensures))) behind)
@@ -52,7 +55,7 @@ put-seconds-requires c κs =
 returns-2 : tie.Need-returns-2
 returns-2 c =
     let counted = c .before .before in
-    let asked = counted .before .before .before in
+    let asked = counted .before .before .before .before in
     let frames = asked .before .before .before .args .frames in
     let first = countedText [] (frames .count) (letters " frame") in
     let second = secondsText (hundredthsOf (frames .count) (frames .first)) in
@@ -73,6 +76,7 @@ put-frames-spec =
     put-requires
     returns
     slice-aggregate-put-counted
+    cast-put-counted
     slice-aggregate-put-counted-2
     put-counted-requires
     hundredths-requires

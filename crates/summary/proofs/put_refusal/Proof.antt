@@ -17,11 +17,11 @@ all-next : (c : tie.Else1) → let a = c .before .before .before .args in
     ++ (reasonText (letters " refused with ") (a .number) ++ numbered (letters " from byte ") (a .refused .first)))
 all-next c = subst (Next _ _) (some-refusals _ _ _ (c .if1 .left)) (c .before .before .before .pre .1)
 
-behind-count : (c : tie.After-put-counted) → let a = c .before .before .before .before .before .before .args in
+behind-count : (c : tie.After-put-counted) → let a = c .before .before .before .before .before .before .before .args in
     Next (summaryOf (a .stream .now)) (c .put-counted .result .bytes)
     (reasonText (letters " refused with ") (a .number) ++ numbered (letters " from byte ") (a .refused .first))
 behind-count c =
-    let asked = c .before .before .before in
+    let asked = c .before .before .before .before in
     second-next (countedText (letters "; ") (asked .before .before .before .args .refused .count) (letters " call")) _ (c .put-counted .ensures)
     (all-next asked)
 
@@ -33,19 +33,22 @@ returns c =
 slice-aggregate-put-counted : tie.Need-slice-aggregate-put-counted
 slice-aggregate-put-counted c = search needs
 
+cast-put-counted : tie.Need-cast-put-counted
+cast-put-counted c = search needs
+
 slice-aggregate-put-counted-2 : tie.Need-slice-aggregate-put-counted-2
 slice-aggregate-put-counted-2 c = search needs
 
 put-counted-requires : tie.Need-put-counted-requires
 put-counted-requires c κs =
-    let asked = c .before .before in (asked .before .before .before .pre .0, first-next _ _ (all-next asked))
+    let asked = c .before .before .before in (asked .before .before .before .pre .0, first-next _ _ (all-next asked))
 
 slice-aggregate-put-reason : tie.Need-slice-aggregate-put-reason
 slice-aggregate-put-reason c = search needs
 
 put-reason-requires : tie.Need-put-reason-requires
 put-reason-requires c κs =
-    let counted = c .before in (counted .before .before .before .before .before .before .pre .0, first-next _ _ (behind-count counted))
+    let counted = c .before in (counted .before .before .before .before .before .before .before .pre .0, first-next _ _ (behind-count counted))
 
 slice-aggregate-put-number : tie.Need-slice-aggregate-put-number
 slice-aggregate-put-number c = search needs
@@ -53,7 +56,7 @@ slice-aggregate-put-number c = search needs
 put-number-requires : tie.Need-put-number-requires
 put-number-requires c κs =
     let counted = c .before .before .before in
-    let entry = counted .before .before .before .before .before .before in (
+    let entry = counted .before .before .before .before .before .before .before in (
       entry .pre .0,
       second-next (reasonText (letters " refused with ") (entry .args .number)) _ (c .before .put-reason .ensures) (behind-count counted),
     )
@@ -62,7 +65,7 @@ returns-2 : tie.Need-returns-2
 returns-2 c =
     let named = c .before .before in
     let counted = named .before .before in
-    let asked = counted .before .before .before in
+    let asked = counted .before .before .before .before in
     let a = asked .before .before .before .args in
     let first = countedText (letters "; ") (a .refused .count) (letters " call") in
     let second = reasonText (letters " refused with ") (a .number) in
@@ -83,6 +86,7 @@ put-refusal-spec =
     (tie.spec
     returns
     slice-aggregate-put-counted
+    cast-put-counted
     slice-aggregate-put-counted-2
     put-counted-requires
     slice-aggregate-put-reason

@@ -47,7 +47,7 @@ returns c =
       output-is = call .1 .1 ∙ ap (decodeOutput (begun .stream .now) (begun .memory .now) (begun .output .now)) same;
       state-is =
           record {
-            places-hold = at-places .places-of .ensures ∙ ap (λ x. placesOf (x .state)) decoded;
+            places-hold = at-places .places-of .ensures ∙ ap (λ x. placesOf (x .skipped) (x .state)) decoded;
             counts-hold = at-answer .before .before .counts-of .ensures ∙ ap (λ x. countsOf (x .state)) decoded;
             time-holds = ap (λ x. timeOf (x .state)) decoded;
           };

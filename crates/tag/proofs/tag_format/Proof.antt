@@ -34,7 +34,7 @@ returns c =
       number-is = ap (λ n. n .number) named;
       state-is =
           record {
-            places-hold = at-places .places-of .ensures ∙ ap (λ x. placesOf (x .state)) answered;
+            places-hold = at-places .places-of .ensures ∙ ap (λ x. placesOf (x .skipped) (x .state)) answered;
             counts-hold = at-reply .before .before .counts-of .ensures ∙ ap (λ x. countsOf (x .state)) answered;
             time-holds = ap (λ x. timeOf (x .state)) answered;
           };

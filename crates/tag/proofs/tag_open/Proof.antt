@@ -34,7 +34,7 @@ returns c =
         number-is = c .heading-number .ensures ∙ ap (λ x. headingNumber (x .answer)) opened;
         state-is =
             record {
-              places-hold = c .before .before .before .places-of .ensures ∙ ap (λ x. placesOf (x .state)) opened;
+              places-hold = c .before .before .before .places-of .ensures ∙ ap (λ x. placesOf (x .skipped) (x .state)) opened;
               counts-hold = c .before .before .counts-of .ensures ∙ ap (λ x. countsOf (x .state)) opened;
               time-holds = ap (λ x. timeOf (x .state)) opened;
             };

@@ -1,10 +1,9 @@
-use mathlib.Core.Path.{ap}
-use mathlib.Core.List.{List}
 use borrow.Author.Needs.{needs}
-use Rattle.tally.specs.declared.Kept.{Kept}
-use Rattle.tally.specs.declared.Tally.{Tally}
 use Rattle.tally.proofs.add.Statement.{statement}
 use Rattle.tally.proofs.add.Tie as tie
+
+more-junk-requires : tie.Need-more-junk-requires
+more-junk-requires c κs = search needs
 
 enum-known-line : tie.Need-enum-known-line
 enum-known-line c = search needs
@@ -33,18 +32,17 @@ enum-told c = search needs
 returns : tie.Need-returns
 returns c =
     let matched = c .before .before in
-    let t = matched .before .before .before .before .args .tally in
-    rw (matched .line .given .1) (ap {B = Tally} (λ (frames : Kept). record { frames = frames; refused = t .refused; end = t .end }) (c .keep .ensures))
+    rw (matched .before .before .before .before .more-junk .ensures, c .keep .ensures, matched .line .given .1)
 
 returns-2 : tie.Need-returns-2
 returns-2 c =
     let matched = c .before .before in
-    let t = matched .before .before .before .before .args .tally in
-    rw (matched .line2 .given .1)
-    (ap {B = Tally} (λ (refused : List Kept). record { frames = t .frames; refused = refused; end = t .end }) (c .keep-at .ensures))
+    rw (matched .before .before .before .before .more-junk .ensures, c .keep-at .ensures, matched .line2 .given .1)
 
 returns-3 : tie.Need-returns-3
-returns-3 c = rw (c .before .line3 .given .1)
+returns-3 c =
+    let matched = c .before in
+    rw (matched .before .before .before .before .more-junk .ensures, matched .line3 .given .1)
 
 returns-4 : tie.Need-returns-4
 returns-4 c = rw (c .enum-told .given .1)
@@ -53,6 +51,7 @@ pub add-spec : {M : Type 1} → statement M
 add-spec =
     tie.close
     (tie.spec
+    more-junk-requires
     enum-known-line
     cast-keep
     keep-requires

@@ -1,3 +1,4 @@
+use Prim.Native.Nat.{_≤_}
 use mathlib.Core.Path.{_≡_}
 use native.Mathlib.Omega.{arith}
 use lib.Ieee.{ofBits}
@@ -5,18 +6,19 @@ use lib.ListN.{length}
 use borrow.Author.Needs.{needs}
 use Rattle.synthesis.specs.Slots.{memoryLength, outputLength}
 use Rattle.listing.specs.Lines.{shownFrom, linesIn}
+use Rattle.listing.specs.LinesLaws.{opening-carries-few}
 use Rattle.tally.proofs.Turns.{Counted, begins, none-left, room-left, after-last, after-other}
 use Rattle.tally.proofs.count.Statement.{statement}
 use Rattle.tally.proofs.count.Tie as tie
 
 -- what is left to add is what the calls that are left will give
 abbrev Inv-loop : tie.InvT-loop
-Inv-loop stream memory₀ output₀ tally₀ state₀ calls₀ memory output tally state calls =
-    (length memory ≡ memoryLength) × (length output ≡ outputLength)
-    × Counted stream tally calls (linesIn (shownFrom calls stream memory output state))
+Inv-loop stream memory₀ output₀ tally₀ state₀ carried₀ calls₀ memory output tally state carried calls =
+    (length memory ≡ memoryLength) × (length output ≡ outputLength) × (carried ≤ length stream)
+    × Counted stream tally calls (linesIn (shownFrom calls stream memory output carried state))
 
 abbrev μ-loop : tie.MeasureT-loop
-μ-loop stream memory₀ output₀ tally₀ state₀ calls₀ memory output tally state calls = calls
+μ-loop stream memory₀ output₀ tally₀ state₀ carried₀ calls₀ memory output tally state carried calls = calls
 
 plain-requires : tie.Need-plain-requires Inv-loop μ-loop
 plain-requires c κs = search needs
@@ -30,16 +32,24 @@ new-requires c κs = search needs
 opening-requires : tie.Need-opening-requires Inv-loop μ-loop
 opening-requires c κs = search needs
 
+carried-requires : tie.Need-carried-requires Inv-loop μ-loop
+carried-requires c κs = search needs
+
 add-calls : tie.Need-add-calls Inv-loop μ-loop
 add-calls c = search needs
 
 loop-holds : tie.Need-loop-holds Inv-loop μ-loop
 unfolding ofBits
 loop-holds c =
-    let at-new = c .before .before .before in
+    let at-new = c .before .before .before .before in
     let entry = at-new .before .before .before .before in
     let e = at-new .new .ensures in
-    (search needs, search needs, begins _ _ _ _ _ (entry .pre) (at-new .before .before .plain .ensures) (e .0) (e .1) (c .before .opening .ensures))
+    let plainly = at-new .before .before .plain .ensures in (
+      search needs,
+      search needs,
+      opening-carries-few _ _ _ _ _ (e .0) (c .carried .ensures),
+      begins _ _ _ _ _ (entry .pre) plainly (e .0) (e .1) (c .before .before .opening .ensures) _ (c .carried .ensures),
+    )
 
 sub-calls : tie.Need-sub-calls Inv-loop μ-loop
 sub-calls c = search needs
@@ -55,8 +65,11 @@ next-line-requires c κs = search needs
 
 add-requires : tie.Need-add-requires Inv-loop μ-loop
 add-requires c κs =
-    let head = c .before .before .before .before .before .before .before in
-    room-left _ _ _ _ _ _ (head .before .before .before .before .before .before .before .before .pre) (head .loop .inv .2) (omega arith)
+    let called = c .before .before .before in
+    let head = called .before .before .before .before in
+    let short = head .before .before .before .before .before .before .before .before .before .pre in
+    let e = called .next-line .ensures in
+    room-left _ _ _ _ _ _ _ short (head .loop .inv .3) (head .loop .inv .2) _ _ _ (omega arith) (e .0) (e .1 .0) (e .1 .1)
 
 is-last-requires : tie.Need-is-last-requires Inv-loop μ-loop
 is-last-requires c κs = search needs
@@ -69,28 +82,29 @@ loop-again c =
     let put = c .before .before in
     let called = put .before .before .before .before in
     let head = called .before .before .before .before in
-    let short = head .before .before .before .before .before .before .before .before .pre in
+    let short = head .before .before .before .before .before .before .before .before .before .pre in
     let e = called .next-line .ensures in (
       search needs,
       search needs,
-      after-other _ _ _ _ _ _ short (head .loop .inv .2) _ _ _ (omega arith) (e .0) (e .1 .0) (e .1 .1) _ _ (put .add .ensures) (c .before .is-last .ensures)
-          (c .if1 .left),
+      search needs,
+      after-other _ _ _ _ _ _ _ short (head .loop .inv .3) (head .loop .inv .2) _ _ _ (omega arith) (e .0) (e .1 .0) (e .1 .1) _ _ (put .add .ensures)
+          (c .before .is-last .ensures) (c .if1 .left),
     )
 
 returns : tie.Need-returns Inv-loop μ-loop
 returns c =
     let head = c .before in
-    none-left _ _ _ _ _ _ (head .before .before .before .before .before .before .before .before .pre) (head .loop .inv .2) (omega arith)
+    none-left _ _ _ _ _ _ _ (head .before .before .before .before .before .before .before .before .before .pre) (head .loop .inv .3) (omega arith)
 
 returns-2 : tie.Need-returns-2 Inv-loop μ-loop
 returns-2 c =
     let put = c .before .before in
     let called = put .before .before .before .before in
     let head = called .before .before .before .before in
-    let short = head .before .before .before .before .before .before .before .before .pre in
+    let short = head .before .before .before .before .before .before .before .before .before .pre in
     let e = called .next-line .ensures in
-    after-last _ _ _ _ _ _ short (head .loop .inv .2) _ _ _ (omega arith) (e .0) (e .1 .0) (e .1 .1) _ _ (put .add .ensures) (c .before .is-last .ensures)
-    (c .if1 .taken)
+    after-last _ _ _ _ _ _ _ short (head .loop .inv .3) (head .loop .inv .2) _ _ _ (omega arith) (e .0) (e .1 .0) (e .1 .1) _ _ (put .add .ensures)
+    (c .before .is-last .ensures) (c .if1 .taken)
 
 pub count-spec : {M : Type 1} → statement M
 count-spec =
@@ -102,6 +116,7 @@ count-spec =
     slice-aggregate-new
     new-requires
     opening-requires
+    carried-requires
     add-calls
     loop-holds
     sub-calls

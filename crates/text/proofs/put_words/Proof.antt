@@ -3,14 +3,14 @@ use native.Mathlib.Omega.{arith}
 use lib.ListN.{length-append}
 use borrow.Author.Needs.{needs}
 use Rattle.listing.specs.Text.{bracketed}
-use Rattle.listing.specs.Words.{letters, wordsOf}
+use Rattle.listing.specs.Words.{letters, lineWords}
 use Rattle.scribe.specs.Next.{Next, first-next, second-next}
 use Rattle.scribe.specs.Whole.{wholeOf}
 use Rattle.text.proofs.put_words.Statement.{statement}
 use Rattle.text.proofs.put_words.Tie as tie
 
 behind-bracket : (c : tie.After-put) → let a = c .before .before .before .args in
-    Next (wholeOf (a .what) (a .stream .now)) (c .put .result .bytes) (wordsOf (a .line) ++ letters ")")
+    Next (wholeOf (a .what) (a .stream .now)) (c .put .result .bytes) (lineWords (a .line) ++ letters ")")
 unfolding bracketed
 behind-bracket c = second-next (letters " (") _ (c .put .ensures) (c .before .before .before .pre .1)
 
@@ -33,14 +33,14 @@ slice-aggregate-put-2 c = search needs
 put-requires-2 : tie.Need-put-requires-2
 put-requires-2 c κs =
     let entry = c .before .before .before .before .before in
-    let last = second-next (wordsOf (entry .args .line)) (letters ")") (c .before .put-meaning .ensures) (behind-bracket (c .before .before)) in
+    let last = second-next (lineWords (entry .args .line)) (letters ")") (c .before .put-meaning .ensures) (behind-bracket (c .before .before)) in
     (omega (arith, entry .pre .0, last .inside), last)
 
 returns : tie.Need-returns
 unfolding bracketed
 returns c =
     let opened = c .before .before .before in
-    let words = wordsOf (opened .before .before .before .args .line) in
+    let words = lineWords (opened .before .before .before .args .line) in
     omega (
       arith,
       c .put2 .ensures,

@@ -21,15 +21,15 @@ enum-known-h c = search needs
 
 returns : tie.Need-returns
 unfolding enoughOf
-returns c = ap (holding _) (sym (c .enum-told .given .1) ∙ c .before .before .has .ensures)
+returns c = ap (holding _ _) (sym (c .enum-told .given .1) ∙ c .before .before .has .ensures)
 
 returns-2 : tie.Need-returns-2
 unfolding enoughOf
-returns-2 c = ap (holding _) (sym (c .enum-told2 .given .1) ∙ c .before .before .has .ensures)
+returns-2 c = ap (holding _ _) (sym (c .enum-told2 .given .1) ∙ c .before .before .has .ensures)
 
 returns-3 : tie.Need-returns-3
 unfolding enoughOf
-returns-3 c = ap (holding _) (sym (c .before .h .given .1) ∙ c .before .before .before .has .ensures)
+returns-3 c = ap (holding _ _) (sym (c .before .h .given .1) ∙ c .before .before .before .has .ensures)
 
 pub enough-spec : {M : Type 1} → statement M
 enough-spec =

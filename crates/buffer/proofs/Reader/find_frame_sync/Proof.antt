@@ -8,7 +8,7 @@ use borrow.Author.Tests.{lt-ltb, le-ltb}
 use lib.ListN.{length}
 use Rattle.ground.specs.Tests.{tests}
 use Rattle.buffer.specs.Bits.{longestStream, farthestBit, stopOf}
-use Rattle.buffer.specs.Calls.{readerAt, searchOf}
+use Rattle.buffer.specs.Calls.{readerAt, byteAt, searchOf}
 use Rattle.buffer.specs.declared.Reader.{Reader}
 use Rattle.buffer.specs.declared.Sync.the-variants.{Found, Missing}
 use Rattle.buffer.proofs.Reader.find_frame_sync.Statement.{statement}
@@ -17,11 +17,11 @@ use Rattle.buffer.proofs.Reader.find_frame_sync.Tie as tie
 -- the answer by where the search stopped
 module _ (s : List ℕ) (r : Reader) (stop : ℕ) (short : length s ≤ longestStream) (near : r .at .0 ≤ farthestBit)
     (is : stop ≡ stopOf s (r .at .0 / 8)) where
-  found : stop < length s - 1 → Found (readerAt ((stop + 1) * 8 + 3)) ≡ searchOf s r
+  found : stop < length s - 1 → Found (byteAt stop) (stop - r .at .0 / 8) (readerAt ((stop + 1) * 8 + 3)) ≡ searchOf s r
   unfolding searchOf
   found l = rw is (simp (le-ltb _ _ short, le-ltb _ _ near, lt-ltb _ _ (rw is at l)))
 
-  missing : length s - 1 ≤ stop → Missing (readerAt ((stop + 1) * 8)) ≡ searchOf s r
+  missing : length s - 1 ≤ stop → Missing (byteAt (length s)) (length s - r .at .0 / 8) (readerAt ((stop + 1) * 8)) ≡ searchOf s r
   unfolding searchOf
   missing l = rw is (simp (le-ltb _ _ short, le-ltb _ _ near, le-ltb _ _ (rw is at l)))
 
@@ -65,9 +65,12 @@ module _ (c : tie.After-bit) where
   stopped : at-pair .first-pair .result .0 ≡ stopOf (start .args .s .now) (start .args .self .at .0 / 8)
   stopped = at-pair .first-pair .ensures .0 ∙ ap (λ p. stopOf (start .args .s .now) (p .0)) (at-pair .before .byte .ensures)
 
-add-t10 : tie.Need-add-t10
-add-t10 c =
-    let at-bit = c .before .before .before .before in
+sub-t10 : tie.Need-sub-t10
+sub-t10 c = omega (arith, c .before .before .before .before .before .before .before .first-pair .ensures)
+
+add-t11 : tie.Need-add-t11
+add-t11 c =
+    let at-bit = c .before .before .before .before .before .before in
     let at-pair = at-bit .before .before in
     omega (
       arith,
@@ -80,18 +83,27 @@ add-t10 c =
 
 returns-3 : tie.Need-returns-3
 returns-3 c =
-    let at-test = c .before in
+    let at-test = c .before .before .before in
     let at-bit = at-test .before .before .before in
-    ap (λ b. Found (readerAt (b .0 + 3))) (at-bit .bit .ensures)
+    let stop = at-pair at-bit .first-pair .result in
+    ap (λ b. Found stop (stop .0 - at-pair at-bit .before .byte .result .0) (readerAt (b .0 + 3))) (at-bit .bit .ensures)
+    ∙ ap (λ p. Found stop (stop .0 - p .0) (readerAt ((stop .0 + 1) * 8 + 3))) (at-pair at-bit .before .byte .ensures)
     ∙ found _ _ _ (at-short at-bit .if1 .left) (at-near at-bit .if2 .left) (stopped at-bit)
     (rw (at-test .before .before .last-of .ensures) at (at-test .if3 .taken))
 
+bytes-from-requires : tie.Need-bytes-from-requires
+bytes-from-requires c κs = search needs
+
 returns-4 : tie.Need-returns-4
 returns-4 c =
-    let at-bit = c .before .before .before in
-    ap (λ b. Missing (record { at = b })) (at-bit .bit .ensures)
+    let at-test = c .before in
+    let at-bit = at-test .before .before .before in
+    let s = start at-bit .args .s .now in
+    ap (λ b. Missing (byteAt (length s)) (c .bytes-from .result) (record { at = b })) (at-bit .bit .ensures)
+    ∙ ap (λ k. Missing (byteAt (length s)) k (readerAt ((at-pair at-bit .first-pair .result .0 + 1) * 8)))
+    (c .bytes-from .ensures ∙ ap (λ p. length s - p .0) (at-pair at-bit .before .byte .ensures))
     ∙ missing _ _ _ (at-short at-bit .if1 .left) (at-near at-bit .if2 .left) (stopped at-bit)
-    (rw (c .before .before .last-of .ensures) at (c .if3 .left))
+    (rw (at-test .before .before .last-of .ensures) at (at-test .if3 .left))
 
 pub find-frame-sync-spec : {M : Type 1} → statement M
 find-frame-sync-spec =
@@ -104,6 +116,8 @@ find-frame-sync-spec =
     add-if3
     bit-requires
     last-of-requires
-    add-t10
+    sub-t10
+    add-t11
     returns-3
+    bytes-from-requires
     returns-4)

@@ -1,6 +1,6 @@
 use borrow.Author.Needs.{needs}
 use mathlib.Core.Path.{ap}
-use lib.ListN.{set}
+use Rattle.probe.specs.Answers.{put}
 use Rattle.probe.proofs.reading.reading_reader.Statement.{statement}
 use Rattle.probe.proofs.reading.reading_reader.Tie as tie
 
@@ -13,9 +13,22 @@ element-write-answer c = search needs
 element-write-answer-2 : tie.Need-element-write-answer-2
 element-write-answer-2 c = search needs
 
+element-write-answer-3 : tie.Need-element-write-answer-3
+element-write-answer-3 c = search needs
+
+element-write-answer-4 : tie.Need-element-write-answer-4
+element-write-answer-4 c = search needs
+
 returns : tie.Need-returns
-returns c = let e = c .reader-call .ensures in (ap (λ a. a .number) e, ap (λ a. set (set (c .before .before .args .answer .now) 0 (a .value)) 1 (a .at)) e)
+returns c = let e = c .reader-call .ensures in (ap (λ a. a .number) e, ap (λ a. put a (c .before .before .args .answer .now)) e)
 
 pub reading-reader-spec : {M : Type 1} → statement M
 reading-reader-spec =
-    tie.close (tie.spec reader-call-requires element-write-answer element-write-answer-2 returns)
+    tie.close
+    (tie.spec
+    reader-call-requires
+    element-write-answer
+    element-write-answer-2
+    element-write-answer-3
+    element-write-answer-4
+    returns)
