@@ -45,11 +45,12 @@ pub pairs : map (syncPair 0xFF) (0xFB ∷ 0xFC ∷ 0xFD ∷ 0xFE ∷ []) ++ map 
 pairs = refl
 
 -- 00 FF FE FF FD: "three bits into the second byte"; from the pair's second byte on, an almost-pair, an empty stream, and past the end:
--- "one byte past the larger of i and the last byte". Passed over: 3 bytes to the FF at 3, none from within it (bit 31), 1 from byte 4 to
--- the end, none past it, 2, none
-pub searches : map (λ i. searchOf (0x00 ∷ 0xFF ∷ 0xFE ∷ 0xFF ∷ 0xFD ∷ []) (readerAt i)) (0 ∷ 31 ∷ 32 ∷ 56 ∷ [])
+-- "one byte past the larger of i and the last byte". Passed over: 3 bytes to the FF at 3, also from within the first (bit 1), none from
+-- within the FF (bit 31), 1 from within the last byte (bit 33), none past the end, 2, none
+pub searches : map (λ i. searchOf (0x00 ∷ 0xFF ∷ 0xFE ∷ 0xFF ∷ 0xFD ∷ []) (readerAt i)) (0 ∷ 1 ∷ 31 ∷ 33 ∷ 56 ∷ [])
     ++ map (λ s. searchOf s (readerAt 0)) ((0xFF ∷ 0xFB ∷ []) ∷ [] ∷ [])
-    ≡ Found (byteAt 3) 3 (readerAt 35) ∷ Found (byteAt 3) 0 (readerAt 35) ∷ Missing (byteAt 5) 1 (readerAt 40) ∷ Missing (byteAt 5) 0 (readerAt 64)
+    ≡ Found (byteAt 3) 3 (readerAt 35) ∷ Found (byteAt 3) 3 (readerAt 35) ∷ Found (byteAt 3) 0 (readerAt 35) ∷ Missing (byteAt 5) 1 (readerAt 40)
+    ∷ Missing (byteAt 5) 0 (readerAt 64)
     ∷ Missing (byteAt 2) 2 (readerAt 16) ∷ Missing (byteAt 0) 0 (readerAt 8) ∷ []
 unfolding searchOf firstFrom
 searches = refl

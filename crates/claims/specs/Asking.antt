@@ -99,9 +99,9 @@ refused-alike s memory output a lent within n e = by (question-table s a .holds)
     by (ten l w) e = absurd (never within w)
     by (known l w k) e = absurd (let z : _≡_ {A = ℕ} 0 1 = cc in omega arith)
     by (accepted l w k t) e = absurd (let z : _≡_ {A = ℕ} 0 1 = cc in omega arith)
-    by (sought {n = k} {b = b} {r = r} l w none t) e =
+    by (sought {n = k} {sync = sync} {r = r} l w none t) e =
         sym (decode-table s memory output a .only (Decodes.sought (record { room = lent; within = within }) (ranged a w .known none) t) .0)
-        ∙ ap (λ (i : ℕ). refused (passed a b) i (standsAt r a)) (let same : k ≡ n = cc in same)
+        ∙ ap (λ (i : ℕ). refused (passed a sync) i (standsAt r a)) (let same : k ≡ n = cc in same)
 
 told-alike : (f g : Format) → SameFormat f g → told g ≡ told f
 told-alike f g same = rw (same .bitrate, same .samplerate, same .mode)

@@ -20,23 +20,23 @@ unfolding bitsValue bitAt
 legal = (is-header (behind silent) 0 tt, is-header (behind silent) 104 tt, is-header (behind silent) 208 tt, refl, refl)
 
 module _ (m o : List Float) (long : memoryLength ≤ length m) (room : outputLength ≤ length o) where
-  abbrev quiet : Course (behind silent) silence 58 64
-  quiet = courses .1
+  abbrev unknocked : Course (behind silent) silence 58 64
+  unknocked = courses .1
 
   pub first-of-the-standards : StandardsFrame (first (behind silent) m o)
   unfolding On
   first-of-the-standards =
-      accepted-frames-are-the-standards {c = first (behind silent) m o} (past-one quiet m o long room) refl
-      (known-accepted _ headed (before-first quiet m o long room))
+      accepted-frames-are-the-standards {c = first (behind silent) m o} (past-one unknocked m o long room) refl
+      (known-accepted _ headed (before-first unknocked m o long room))
 
   pub second-of-the-standards : StandardsFrame (second (behind silent) m o)
   unfolding On
   second-of-the-standards =
-      accepted-frames-are-the-standards {c = second (behind silent) m o} (past-two quiet m o long room) (refl, refl)
-      (known-accepted _ headed-two (before-second quiet m o long room))
+      accepted-frames-are-the-standards {c = second (behind silent) m o} (past-two unknocked m o long room) (refl, refl)
+      (known-accepted _ headed-two (before-second unknocked m o long room))
 
   pub third-of-the-standards : StandardsFrame (third (behind silent) m o)
   unfolding On
   third-of-the-standards =
-      accepted-frames-are-the-standards {c = third (behind silent) m o} (past-three quiet m o long room) (refl, (refl, refl))
-      (known-accepted _ headed-three (before-third quiet m o long room))
+      accepted-frames-are-the-standards {c = third (behind silent) m o} (past-three unknocked m o long room) (refl, (refl, refl))
+      (known-accepted _ headed-three (before-third unknocked m o long room))

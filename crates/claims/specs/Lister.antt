@@ -1,34 +1,43 @@
 -- The lister's lines: they come to an end, which is the last line and no other. From 01, the lister: "calls until 1 or 7".
 -- Assumes nothing.
-use Prim.Native.Nat.{ℕ, zero, suc, _+_, _*_, _/_, _<_}
-use mathlib.Core.Path.{_≡_, refl, ap}
+use Prim.Native.Nat.{ℕ, zero, suc, _+_, _*_, _/_, _≤_, _<_}
+use mathlib.Core.Path.{_≡_, refl, ap, _∙_}
 use mathlib.Core.Bool.{Bool, true, false, cond}
 use mathlib.Core.List.{List, [], _∷_, _++_, flatMap}
+use native.Mathlib.Nat.{add-zero}
 use native.Mathlib.Omega.{arith}
 use lib.Dec.{eqb}
 use lib.ListN.{length, getD}
 use borrow.Author.Tests.{lt-ltb, eqb-false, ltb-false}
 use Rattle.ground.specs.Tests.{by-test, neither}
 use Rattle.ground.specs.Rows.{never}
+use Rattle.buffer.specs.Bits.{longestStream}
 use Rattle.buffer.specs.Calls.{left}
 use Rattle.synthesis.specs.Slots.{memoryLength, quiet}
 use Rattle.header.specs.Readings.{plain}
+use Rattle.state.specs.State.{fresh}
+use Rattle.state.specs.StateLaws.{fresh-ranged}
 use Rattle.state.specs.declared.Audio.{Audio}
+use Rattle.verdict.specs.VerdictLaws.{attempt-kept, not-known}
+use Rattle.verdict.specs.declared.Asked.{Asked}
 use Rattle.verdict.specs.declared.Heading.{Heading}
 use Rattle.verdict.specs.declared.Heading.the-variants.{Known, Refused as HeadingRefused}
 use Rattle.audio.specs.Calls.{openOf}
+use Rattle.audio.specs.CallsLaws.{by-opening}
 use Rattle.audio.specs.Numbers.{ends, answerNumber}
 use Rattle.audio.specs.declared.Answer.{Answer}
 use Rattle.audio.specs.declared.Answer.the-variants.{Frame, Refused}
 use Rattle.listing.specs.declared.Behind.the-variants.{Nothing, Words}
 use Rattle.listing.specs.declared.Line.{Line}
 use Rattle.listing.specs.declared.Line.the-variants.{Refused as RefusedLine, End, Long}
+use Rattle.listing.specs.LinesLaws.{line-skips}
 use Rattle.listing.specs.Tally.{skippedIn}
 use Rattle.listing.specs.Lines.{Shown, bytePosition, lineBy, isLast, nextOf, openingTold, openingShown, carriedBy, shownFrom, calledOf, tooLong, shownOf, linesIn, linesOf}
 use Rattle.listing.specs.Text.{textBy, textsOf, listingOf}
 use Rattle.past.specs.Calls.{Call, outcome}
 use Rattle.past.specs.Moves.{call-moves}
 use Rattle.heard.specs.Heard.{after, opening, Begun, opening-begun, begun-on}
+use Rattle.claims.specs.Passed.{nothing-sought}
 
 -- ---- the last line is an end, and no other is
 
@@ -73,15 +82,29 @@ lineAt carried c = nextOf (c .stream) (c .memory) (c .output) carried (c .state)
 abbrev pub linesFrom : ℕ → ℕ → Call → List Line
 linesFrom calls carried c = linesIn (shownFrom calls (c .stream) (c .memory) (c .output) carried (c .state))
 
--- what is carried to a call's line is told there, beside what the call passed over, and not again in the lines behind it
-pub carried-once : (carried : ℕ) (c : Call) → skippedIn (lineAt carried c) ≡ carried + outcome c .skipped
+-- what is carried to a call's line is told there, beside what the call passed over
+pub carried-to-a-line : (carried : ℕ) (c : Call) → skippedIn (lineAt carried c) ≡ carried + outcome c .skipped
 unfolding nextOf
-carried-once carried c = by (outcome c .answer)
-  where
-    by : (x : Answer) → skippedIn (lineBy (c .state .frames) (carried + outcome c .skipped) x (outcome c .state)) ≡ carried + outcome c .skipped
-    by (Frame time bits) = refl
-    by (Refused n) = by-test (λ (x : Line). skippedIn x ≡ carried + outcome c .skipped) (ends n) _ _ (λ _. refl) (λ _. refl)
+carried-to-a-line carried c = line-skips (c .state .frames) (carried + outcome c .skipped) (outcome c .answer) (outcome c .state)
 
+-- 02, E2: "A header accepted at opening has no line; its number goes to the line after it": it is that line's number
+module _ (s : List ℕ) (short : length s ≤ longestStream) where
+  abbrev opened : Asked
+  opened = openOf plain s (quiet memoryLength)
+
+  pends : opened .answer ≡ Known → opening s .state .pending ≡ 0 → ⊥
+  pends =
+      by-opening plain s (quiet memoryLength) (λ (x : Asked). x .answer ≡ Known → x .state .pending ≡ 0 → ⊥) (λ _ e. absurd (not-known e))
+      (λ _ _ e. absurd (not-known e)) (λ l _. attempt-kept s l (fresh plain) (fresh-ranged plain) .some)
+
+  pub goes-to-the-line-after-it : opened .answer ≡ Known → skippedIn (lineAt (carriedBy (opened .skipped) (opened .answer)) (opening s)) ≡ opened .skipped
+  goes-to-the-line-after-it known =
+      carried-to-a-line (carriedBy (opened .skipped) (opened .answer)) (opening s)
+      ∙ ap (λ h. carriedBy (opened .skipped) h + outcome (opening s) .skipped) known
+      ∙ ap (λ k. opened .skipped + k) (nothing-sought s (opening s .memory) (opening s .output) (opening s .state) (pends known))
+      ∙ add-zero (opened .skipped)
+
+-- and no later line has it
 pub one-line : (calls carried : ℕ) (c : Call) (x : Line) → lineAt carried c ≡ x → isLast x ≡ false
     → linesFrom (suc calls) carried c ≡ x ∷ linesFrom calls 0 (after c)
 unfolding shownFrom nextOf

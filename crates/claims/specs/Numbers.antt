@@ -25,7 +25,7 @@ use Rattle.audio.specs.Calls.{answering, remembering, sounding, afterOf, framed
 use Rattle.audio.specs.Numbers.{headingNumber, replyNumber, answerNumber}
 use Rattle.state.specs.StateLaws.{ranged, in-range}
 use Rattle.audio.specs.CallsLaws.{by-opening}
-use Rattle.verdict.specs.VerdictLaws.{Room, Called, AtOnce, Heads, Verdict, at-once, no-header, cut-off, whole, verdict-holds, verdict-only, heads-kept, by-asking}
+use Rattle.verdict.specs.VerdictLaws.{Room, Called, AtOnce, Heads, Verdict, at-once, no-header, cut-off, whole, verdict-holds, verdict-only, heads-kept, by-asking, not-known}
 use Rattle.header.specs.declared.Reading.{Reading}
 use Rattle.state.specs.declared.Audio.{Audio}
 use Rattle.verdict.specs.declared.Asked.{Asked}
@@ -52,15 +52,17 @@ Lent s memory output = Room s (length memory) (length output)
 abbrev pub InOrder : List ℕ → List Float → List Float → Audio → Type 0
 InOrder s memory output a = Called s (length memory) (length output) a
 
--- from the aligned start of an attempt to a byte: "those from its aligned start, to the FF of the sync, or to the stream's end"
+-- from the aligned start of an attempt to a byte: "those from its aligned start, to the FF of the sync, or to the stream's end". It is
+-- written out here, so that the tables do not lean on `passedBy`
 abbrev pub passed : Audio → BytePos → ℕ
 passed a sync = sync .0 - byteAfterOf (a .reader .at) .0
 
 -- the state with a header pending, and the bytes passed over: the one that waits, or the one that an attempt accepts
 pub data Pending (s : List ℕ) (a : Audio) : ℕ → Audio → Type 0 where
   waits : (a .pending ≡ 0 → ⊥) → Pending s a 0 a
-  accepts : {f : Format} {size : ℕ} {b : BytePos} {r : Reader} → a .pending ≡ 0
-      → Attempts s (a .reader) (a .format) 0 (record { header = Accepted f size; sync = b; next = r }) → Pending s a (passed a b) (pends r f size a)
+  accepts : {f : Format} {size : ℕ} {sync : BytePos} {r : Reader} → a .pending ≡ 0
+      → Attempts s (a .reader) (a .format) 0 (record { header = Accepted f size; sync = sync; next = r })
+      → Pending s a (passed a sync) (pends r f size a)
 
 -- so many bytes passed over, a number, and the state
 abbrev pub refused : ℕ → ℕ → Audio → Decoded
@@ -75,17 +77,14 @@ pub data Decodes (s : List ℕ) (memory output : List Float) (a : Audio) : ℕ �
   ten : Lent s memory output → inRange a ≡ false → Decodes s memory output a 10 (refused 0 10 a)
   -- 1 to 6: no header pending, and the attempt gives it: "position moved", "old format kept"; with 1 the position is the same, and no byte
   -- is passed over
-  sought : {n : ℕ} {b : BytePos} {r : Reader} → InOrder s memory output a → a .pending ≡ 0 → Attempts s (a .reader) (a .format) n (refusal n b r)
-      → Decodes s memory output a n (refused (passed a b) n (standsAt r a))
+  sought : {n : ℕ} {sync : BytePos} {r : Reader} → InOrder s memory output a → a .pending ≡ 0
+      → Attempts s (a .reader) (a .format) n (refusal n sync r) → Decodes s memory output a n (refused (passed a sync) n (standsAt r a))
   -- "header pending, fewer bits remain than 8 times its data size": "state as after that header, still pending". So a repeated 7 passes none
   seven : {k : ℕ} {b : Audio} → InOrder s memory output a → Pending s a k b → left s (b .reader) < 8 * b .pending
       → Decodes s memory output a 7 (refused k 7 b)
   -- "frame decoded"
   zero : {k : ℕ} {b : Audio} → InOrder s memory output a → Pending s a k b → 8 * b .pending ≤ left s (b .reader)
       → Decodes s memory output a 0 (framedOf s k b)
-
-no-both : {n : ℕ} → Known ≡ Refused n → ⊥
-no-both e = let z : _≡_ {A = ℕ} 0 1 = cc in omega arith
 
 -- an attempt by its table, in a state in range
 module _ (s : List ℕ) (a : Audio) (short : length s ≤ longestStream) (within : inRange a ≡ true) where
@@ -109,7 +108,7 @@ module _ (s : List ℕ) (a : Audio) (short : length s ≤ longestStream) (within
             → seeking (passed a c) a r h ≡ asked k Known b → Pending s a k b
         by (Accepted f size) c r row e =
             subst (λ (x : Asked). Pending s a (x .skipped) (x .state)) e (accepts z row)
-        by (HeaderRefused n) c r row e = absurd (no-both (sym (ap (λ (x : Asked). x .answer) e)))
+        by (HeaderRefused n) c r row e = absurd (not-known (ap (λ (x : Asked). x .answer) e))
 
     refused-row : {k n : ℕ} (P : Asked → Type 0)
         → ((n : ℕ) (c : BytePos) (r : Reader) → Attempts s (a .reader) (a .format) n (refusal n c r) → P (asked (passed a c) (Refused n) (standsAt r a)))
@@ -122,7 +121,7 @@ module _ (s : List ℕ) (a : Audio) (short : length s ≤ longestStream) (within
 
         by : (h : Header) (c : BytePos) (r : Reader) → Attempts s (a .reader) (a .format) (headerNumber h) (record { header = h; sync = c; next = r })
             → seeking (passed a c) a r h ≡ asked k (Refused n) b → P (asked k (Refused n) b)
-        by (Accepted f size) c r t e = absurd (no-both (ap (λ (x : Asked). x .answer) e))
+        by (Accepted f size) c r t e = absurd (not-known (sym (ap (λ (x : Asked). x .answer) e)))
         by (HeaderRefused m) c r t e = subst P e (row m c r t)
 
 module _ (s : List ℕ) (memory output : List Float) (a : Audio) where
@@ -214,12 +213,12 @@ pub data Asks (s : List ℕ) (a : Audio) : ℕ → Replied → Type 0 where
   -- known since an earlier header: nothing is sought
   known : length s ≤ longestStream → inRange a ≡ true → (a .format .samplerate ≡ 3 → ⊥) → Asks s a 0 (record { answer = told (a .format); state = a; skipped = 0 })
   -- sought and accepted: its header is pending
-  accepted : {f : Format} {size : ℕ} {b : BytePos} {r : Reader} → length s ≤ longestStream → inRange a ≡ true → a .format .samplerate ≡ 3
-      → Attempts s (a .reader) (a .format) 0 (record { header = Accepted f size; sync = b; next = r })
-      → Asks s a 0 (record { answer = told f; state = pends r f size a; skipped = passed a b })
+  accepted : {f : Format} {size : ℕ} {sync : BytePos} {r : Reader} → length s ≤ longestStream → inRange a ≡ true → a .format .samplerate ≡ 3
+      → Attempts s (a .reader) (a .format) 0 (record { header = Accepted f size; sync = sync; next = r })
+      → Asks s a 0 (record { answer = told f; state = pends r f size a; skipped = passed a sync })
   -- sought and refused, 1 to 5: "position moved"; with 1 it is the same
-  sought : {n : ℕ} {b : BytePos} {r : Reader} → length s ≤ longestStream → inRange a ≡ true → a .format .samplerate ≡ 3
-      → Attempts s (a .reader) (a .format) n (refusal n b r) → Asks s a n (unanswered (passed a b) n (standsAt r a))
+  sought : {n : ℕ} {sync : BytePos} {r : Reader} → length s ≤ longestStream → inRange a ≡ true → a .format .samplerate ≡ 3
+      → Attempts s (a .reader) (a .format) n (refusal n sync r) → Asks s a n (unanswered (passed a sync) n (standsAt r a))
 
 module _ (s : List ℕ) (a : Audio) where
   Replies : Asked → Type 0
@@ -262,7 +261,7 @@ pub data Opens (c : Reading) (s : List ℕ) (memory : List Float) : ℕ → Aske
   eight : longestStream < length s → Opens c s memory 8 (asked 0 (Refused 8) (fresh c))
   nine : length s ≤ longestStream → length memory < memoryLength → Opens c s memory 9 (asked 0 (Refused 9) (fresh c))
   sought : {n : ℕ} {x : Attempt} → length s ≤ longestStream → memoryLength ≤ length memory → Attempts s (fresh c .reader) (fresh c .format) n x
-      → Opens c s memory n (tried (fresh c) x)
+      → Opens c s memory n (seeking (passed (fresh c) (x .sync)) (fresh c) (x .next) (x .header))
 
 pub open-table : (c : Reading) (s : List ℕ) (memory : List Float) → TableOf (λ (x : Asked). headingNumber (x .answer)) (openOf c s memory) (Opens c s memory)
 unfolding openOf noRoomOf

@@ -3,7 +3,7 @@
 use Prim.Native.Nat.{ℕ}
 use mathlib.Core.Path.{_≡_, refl}
 use mathlib.Core.Bool.{false}
-use mathlib.Core.List.{List, [], _∷_, _++_, map}
+use mathlib.Core.List.{List, [], _∷_, _++_, map, flatMap}
 use native.Mathlib.Omega.{arith}
 use lib.IntN.{pos}
 use lib.Ieee.{Float, fin, isNan, toBits, div, ofInt, round, units, odd, size}
@@ -14,6 +14,7 @@ use Rattle.ground.specs.First.{firstFrom}
 use Rattle.ground.specs.Table.{table, length-table}
 use Rattle.buffer.specs.Bits.{longestStream, bitAt, bitsValue}
 use Rattle.buffer.specs.Calls.{readerAt, byteAt, readOf, fieldOf, hasOf, skipBytesOf, searchOf}
+use Rattle.window.specs.Output.{nought}
 use Rattle.grammar.specs.Reads.{_>>=_, run}
 use Rattle.tables.specs.Standard.{rateOf}
 use Rattle.header.specs.Header.{headerOf, startOf, syncOf, seekOf, fieldsOf, identOf, ratesOf, restOf, modeOf, boundOf, checkOf, sizeOf}
@@ -26,10 +27,16 @@ use Rattle.audio.specs.Calls.{answering, afterOf, framedOf, decodeOf, blank, op
 use Rattle.audio.specs.Numbers.{headingNumber, answerNumber}
 use Rattle.state.specs.declared.Audio.{Audio}
 use Rattle.audio.specs.declared.Reply.the-variants.{Format as ReplyFormat, Refused as ReplyRefused}
+use Rattle.verdict.specs.declared.Asked.{Asked}
 use Rattle.verdict.specs.declared.Heading.{Heading}
 use Rattle.verdict.specs.declared.Heading.the-variants.{Known, Refused}
 use Rattle.listing.specs.Lines.{nextOf, shownFrom, calledOf, shownOf, linesOf}
-use Rattle.listing.specs.declared.Line.the-variants.{Refused as RefusedLine, End}
+use Rattle.listing.specs.Summary.{countedText, hundredthsOf, secondsText, framesText, junkText, reasonText, refusalText, refusalsText, linesText}
+use Rattle.listing.specs.Tally.{endFrom, junkIn}
+use Rattle.listing.specs.Text.{digitsIn, decimalOf, numbered, bracketed}
+use Rattle.listing.specs.Words.{letters, reasonOf}
+use Rattle.listing.specs.declared.Line.{Line}
+use Rattle.listing.specs.declared.Line.the-variants.{Frame as FrameLine, Refused as RefusedLine, End}
 use Rattle.clip.specs.Frames.{heardOf, clipOf}
 use Rattle.claims.specs.Numbers.{Lent}
 use Rattle.past.specs.Pasts.{Past, opened}
@@ -75,22 +82,25 @@ unfolding readyOf atOnceOf headedOf attemptOf enoughOf fresh inRange numbersOk o
     modeOf boundOf checkOf sizeOf
 numbers-occur = refl
 
--- 02, E2: the same numbers, with two zero bytes in front. All but 1, 9 and 10 tell what was passed over; 2 tells all eight bytes
-abbrev passed : List ℕ → Audio → ℕ
-passed s a = readyOf (0 ∷ 0 ∷ s) 2048 2304 a .skipped
+-- 02, E2: each number with the bytes passed over, where two zero bytes stand in front. All but 1, 9 and 10 tell them; 2 tells all eight
+abbrev told : Asked → List ℕ
+told x = headingNumber (x .answer) ∷ x .skipped ∷ []
 
-pub passed-over-occurs : passed (header ++ replicate 622 0) (fresh plain)
-    ∷ passed [] (fresh plain)
-    ∷ passed (1 ∷ replicate 5 0) (fresh plain)
-    ∷ passed (0xFF ∷ 0xFB ∷ replicate 4 0) (fresh plain)
-    ∷ passed (0xFF ∷ 0xFD ∷ replicate 4 0) (fresh plain)
-    ∷ passed (0xFF ∷ 0xFD ∷ 0xAC ∷ replicate 3 0) (fresh plain)
-    ∷ passed (header ++ replicate 2 0) begun
-    ∷ passed (header ++ replicate 2 0) (fresh plain)
-    ∷ readyOf (0 ∷ 0 ∷ header) 2047 2304 (fresh plain) .skipped
-    ∷ passed header broken
+abbrev behindZeros : List ℕ → Audio → List ℕ
+behindZeros s a = told (readyOf (0 ∷ 0 ∷ s) 2048 2304 a)
+
+pub passed-over-occurs : behindZeros (header ++ replicate 622 0) (fresh plain)
+    ∷ behindZeros [] (fresh plain)
+    ∷ behindZeros (1 ∷ replicate 5 0) (fresh plain)
+    ∷ behindZeros (0xFF ∷ 0xFB ∷ replicate 4 0) (fresh plain)
+    ∷ behindZeros (0xFF ∷ 0xFD ∷ replicate 4 0) (fresh plain)
+    ∷ behindZeros (0xFF ∷ 0xFD ∷ 0xAC ∷ replicate 3 0) (fresh plain)
+    ∷ behindZeros (header ++ replicate 2 0) begun
+    ∷ behindZeros (header ++ replicate 2 0) (fresh plain)
+    ∷ told (readyOf (0 ∷ 0 ∷ header) 2047 2304 (fresh plain))
+    ∷ behindZeros header broken
     ∷ []
-    ≡ 2 ∷ 0 ∷ 8 ∷ 2 ∷ 2 ∷ 2 ∷ 2 ∷ 2 ∷ 0 ∷ 0 ∷ []
+    ≡ (0 ∷ 2 ∷ []) ∷ (1 ∷ 0 ∷ []) ∷ (2 ∷ 8 ∷ []) ∷ (3 ∷ 2 ∷ []) ∷ (4 ∷ 2 ∷ []) ∷ (5 ∷ 2 ∷ []) ∷ (6 ∷ 2 ∷ []) ∷ (7 ∷ 2 ∷ []) ∷ (9 ∷ 0 ∷ []) ∷ (10 ∷ 0 ∷ []) ∷ []
 unfolding readyOf atOnceOf headedOf attemptOf enoughOf fresh inRange numbersOk onTime sameBits startTimeOf isNan toBits div ofInt round units odd size
     headerOf startOf syncOf seekOf searchOf hasOf skipBytesOf fieldOf readOf bitsValue bitAt firstFrom run _>>=_ fieldsOf identOf ratesOf restOf
     modeOf boundOf checkOf sizeOf
@@ -119,6 +129,21 @@ unfolding shownOf calledOf shownFrom nextOf decodeOf openOf openMemory noRoomOf 
     startTimeOf isNan toBits div ofInt round units odd size headerOf startOf syncOf seekOf searchOf hasOf skipBytesOf fieldOf readOf bitsValue bitAt
     firstFrom run _>>=_ fieldsOf identOf ratesOf restOf modeOf boundOf checkOf sizeOf
 lines-tell-it-once = (refl, refl)
+
+-- the junk in words: of a stream without a frame all that was passed over; else what was passed over up to the first frame, and not the
+-- 598 bytes behind it; and one byte is no bytes
+abbrev frameBehindJunk : List Line
+frameBehindJunk =
+    RefusedLine 4 (byteAt 3) 1 ∷ FrameLine 0 (byteAt 9) 44100 192 0 188 nought 2 ∷ RefusedLine 2 (byteAt 634) 598 ∷ End 1 (byteAt 634) 0 ∷ []
+
+pub junk-occurs : (linesText (RefusedLine 4 (byteAt 3) 1 ∷ End 7 (byteAt 10) 2 ∷ [])
+    ≡ letters "0 frames: nothing was played; 3 bytes of junk in front; 1 call refused with 4 (a bit rate that is none) from byte 3; ended with 7 (the last frame is cut off)\n")
+    × (linesText frameBehindJunk
+    ≡ letters "1 frame, 0.03 s; 3 bytes of junk in front; 1 call refused with 2 (no sync found) from byte 634; 1 call refused with 4 (a bit rate that is none) from byte 3; ended with 1 (no header can follow)\n")
+    × (junkText 1 ≡ letters "; 1 byte of junk in front")
+unfolding linesText framesText countedText hundredthsOf secondsText junkText junkIn refusalsText refusalText reasonText endFrom flatMap numbered decimalOf
+    digitsIn bracketed reasonOf
+junk-occurs = (refl, refl, refl)
 
 -- an opening gives 0 to 5 and 9 (memory only), a question tells a format or gives 1 to 5 and 10
 abbrev firsts : List (List ℕ)

@@ -1,5 +1,6 @@
 -- How much was passed over (02, E2): what lies between where a call began to seek a header and the byte that its number leads to. No sync
--- pair starts there; an FF stands at that byte, or the stream ends there; and an accepted header is the standard's, at that byte.
+-- pair starts there. An FF stands at that byte; with 2 the stream ends there; with 1 nothing was passed over. An accepted header is the
+-- standard's, at that byte.
 -- Assumes nothing.
 use Prim.Native.Nat.{ℕ, _+_, _-_, _≤_}
 use mathlib.Core.Path.{_≡_, refl, sym, ap, subst}
@@ -26,9 +27,9 @@ use Rattle.state.specs.State.{fresh, inRange}
 use Rattle.state.specs.StateLaws.{ranged}
 use Rattle.state.specs.declared.Audio.{Audio}
 use Rattle.verdict.specs.Verdict.{asked, seeking, attemptOf}
-use Rattle.verdict.specs.VerdictLaws.{seeking-skips}
+use Rattle.verdict.specs.VerdictLaws.{seeking-skips, not-known}
 use Rattle.verdict.specs.declared.Asked.{Asked}
-use Rattle.verdict.specs.declared.Heading.the-variants.{Known, Refused}
+use Rattle.verdict.specs.declared.Heading.the-variants.{Known}
 use Rattle.audio.specs.Calls.{afterOf, framedOf, decodeOf, formatOf, openOf}
 use Rattle.audio.specs.Numbers.{headingNumber, replyNumber, answerNumber}
 use Rattle.audio.specs.declared.Decoded.{Decoded}
@@ -138,7 +139,7 @@ passed-up-to-the-standards-header s a short within {k} {b} e = by (t .header) re
 
     by : (h : Header) → t .header ≡ h → seeking (passed a (t .sync)) a (t .next) h ≡ asked k Known b
         → StandardsHeader s (a .reader) (b .format) (b .pending) (to a k) (b .reader)
-    by (HeaderRefused n) is e = let f : Refused n ≡ Known = ap (λ (x : Asked). x .answer) e in absurd (let z : _≡_ {A = ℕ} 0 1 = cc in omega arith)
+    by (HeaderRefused n) is e = absurd (not-known (ap (λ (x : Asked). x .answer) e))
     by (Accepted f size) is e =
         subst (λ (x : Asked). StandardsHeader s (a .reader) (x .state .format) (x .state .pending) (to a (x .skipped)) (x .state .reader)) e
         (subst (λ (n : ℕ). StandardsHeader s (a .reader) f size n (t .next))

@@ -3,16 +3,18 @@
 use Prim.Native.Nat.{ℕ, zero as none, suc, _+_, _-_, _*_, _/_, _≤_, _<_}
 use mathlib.Core.Path.{_≡_, refl, ap, subst, sym, _∙_}
 use native.Mathlib.Omega.{arith}
-use mathlib.Core.Bool.{cond}
+use mathlib.Core.Bool.{Bool, true, false, cond}
 use mathlib.Core.List.{List}
 use lib.Dec.{eqb, ltb}
 use lib.ListN.{length}
 use borrow.Author.Tests.{lt-ltb, le-ltb, ltb-true, ltb-false}
-use Rattle.ground.specs.First.{first-none}
+use Rattle.ground.specs.First.{first-none, first-within, first-passes}
 use Rattle.ground.specs.Tests.{by-test}
 use Rattle.buffer.specs.Bits.{bitsValue, pastOf, pairAt, stopOf, longestStream, farthestBit}
 use Rattle.buffer.specs.Calls.{gate, left, bytePosOf, aligned, readerAt, byteAt, readOf, hasOf, endedOf, alignOf, skipOf, tellOf, skipBytesOf, searchOf}
 use Rattle.buffer.specs.Numbers.{readNumber, holdsNumber, movedNumber, skippedNumber, toldNumber, syncNumber}
+use Rattle.buffer.specs.PairLaws.{pair-found}
+use Rattle.buffer.specs.declared.BytePos.{BytePos}
 use Rattle.buffer.specs.declared.Reader.{Reader}
 use Rattle.buffer.specs.declared.Read.{Read}
 use Rattle.buffer.specs.declared.Read.the-variants.{Value, Short, Refused}
@@ -128,6 +130,37 @@ module _ (s : List ℕ) (r : Reader) where
   search-table =
       gate-table s r SyncRefused _ syncNumber (λ _. refl) 0
       (by-test (λ x. syncNumber x ≡ 0) (ltb (stopOf s (r .at .0 / 8)) (length s - 1)) _ _ (λ _. refl) (λ _. refl))
+
+-- ---- what a search passes over (02, E2), in the stream's own bytes
+
+-- from the byte that holds the position so many bytes lead to a pair, past none
+pub a-pair-found : (s : List ℕ) (r : Reader) → length s ≤ longestStream → r .at .0 ≤ farthestBit → {sync : BytePos} {k : ℕ} {next : Reader}
+    → searchOf s r ≡ Found sync k next
+    → (r .at .0 / 8 + k ≡ sync .0) × (pairAt s (sync .0) ≡ true) × ((j : ℕ) → r .at .0 / 8 ≤ j → j < sync .0 → pairAt s j ≡ false)
+unfolding searchOf
+a-pair-found s r short near {sync} {k} {next} e = by (ltb stop (length s - 1)) refl (rw (le-ltb _ _ short, le-ltb _ _ near) at e)
+  where
+    from : ℕ
+    from = r .at .0 / 8
+
+    stop : ℕ
+    stop = stopOf s from
+
+    by : (t : Bool) → ltb stop (length s - 1) ≡ t
+        → cond t (Found (byteAt stop) (stop - from) (readerAt ((stop + 1) * 8 + 3))) (Missing (byteAt (length s)) (length s - from) (readerAt ((stop + 1) * 8)))
+        ≡ Found sync k next
+        → (from + k ≡ sync .0) × (pairAt s (sync .0) ≡ true) × ((j : ℕ) → from ≤ j → j < sync .0 → pairAt s j ≡ false)
+    by false t e = absurd (let z : _≡_ {A = ℕ} 0 1 = cc in omega arith)
+    by true t e =
+        let at : byteAt stop ≡ sync = cc in
+        let passed : stop - from ≡ k = cc in
+        let place : stop ≡ sync .0 = ap (λ (b : BytePos). b .0) at in
+        let w = first-within (pairAt s) (length s - 1 - from) from in
+        let pair = pair-found s from (ltb-true _ _ t) in (
+          omega (arith, passed, place, w),
+          ap (pairAt s) (sym place) ∙ pair,
+          λ j l m. first-passes (pairAt s) (length s - 1 - from) from j l (omega (arith, place)),
+        )
 
 -- ---- "a reader searched again at the end goes one byte further each time, at last to a 10"
 

@@ -105,39 +105,39 @@ same-bits = (refl, refl, λ i l. eqb→eq _ _ (below (same 864) 26 tt i l), λ i
 abbrev knocked : Course (behind knocking) knock 126 128
 knocked = courses .0
 
-abbrev quiet : Course (behind silent) silence 58 64
-quiet = courses .1
+abbrev unknocked : Course (behind silent) silence 58 64
+unknocked = courses .1
 
 module _ (m n o u : List Float) (long : memoryLength ≤ length m) (long′ : memoryLength ≤ length n) (room : outputLength ≤ length o)
     (room′ : outputLength ≤ length u) where
   -- the premises of demand 3 hold
   second-frames-agree : Agreeing (second (behind knocking) m o) (second (behind silent) n u)
   second-frames-agree =
-      agree-on _ _ headed-two (before-second knocked m o long room) (before-second quiet n u long′ room′) 0 26 refl (same-bits .0)
+      agree-on _ _ headed-two (before-second knocked m o long room) (before-second unknocked n u long′ room′) 0 26 refl (same-bits .0)
       (lit≤ tt) (lit≤ tt) (same-bits .2)
 
   third-frames-agree : Agreeing (third (behind knocking) m o) (third (behind silent) n u)
   third-frames-agree =
-      agree-on _ _ headed-three (before-third knocked m o long room) (before-third quiet n u long′ room′) 0 26 refl (same-bits .1)
+      agree-on _ _ headed-three (before-third knocked m o long room) (before-third unknocked n u long′ room′) 0 26 refl (same-bits .1)
       (lit≤ tt) (lit≤ tt) (same-bits .3)
 
   remainder : second (behind knocking) m o .state .frames % 4 ≡ second (behind silent) n u .state .frames % 4
-  remainder = ap (λ (a : Audio). a .frames % 4) (state-one knocked m o long room) ∙ sym (ap (λ (a : Audio). a .frames % 4) (state-one quiet n u long′ room′))
+  remainder = ap (λ (a : Audio). a .frames % 4) (state-one knocked m o long room) ∙ sym (ap (λ (a : Audio). a .frames % 4) (state-one unknocked n u long′ room′))
 
   together : Together (third (behind knocking) m o .state) (third (behind knocking) m o .memory) (third (behind silent) n u .state)
       (third (behind silent) n u .memory)
-  together = begin _ _ (past-two knocked m o long room) (past-two quiet n u long′ room′) remainder second-frames-agree
+  together = begin _ _ (past-two knocked m o long room) (past-two unknocked n u long′ room′) remainder second-frames-agree
 
   -- the fifteenth block still tells them apart
   pub sample-480-differs : toBits binary32 (sample (newOutput (second (behind knocking) m o)) 0 480)
       ∷ toBits binary32 (sample (newOutput (second (behind silent) n u)) 0 480) ∷ [] ≡ 0xB73A69A5 ∷ 0x80000000 ∷ []
   sample-480-differs =
-      ap₂ (λ x y. toBits binary32 x ∷ toBits binary32 y ∷ []) (sample-480 knocked m o long room) (sample-480 quiet n u long′ room′) ∙ later-bits
+      ap₂ (λ x y. toBits binary32 x ∷ toBits binary32 y ∷ []) (sample-480 knocked m o long room) (sample-480 unknocked n u long′ room′) ∙ later-bits
 
   -- the knock is over with the sixteenth block, and the next frame has nothing of it
   pub the-knock-stops : (channel k : ℕ) → channel < 2 → 481 ≤ k → k ≤ 1152
       → sample (newOutput (second (behind knocking) m o)) channel k ≡ sample (newOutput (second (behind silent) n u)) channel k
-  the-knock-stops = rings-out (past-two knocked m o long room) (past-two quiet n u long′ room′) remainder second-frames-agree
+  the-knock-stops = rings-out (past-two knocked m o long room) (past-two unknocked n u long′ room′) remainder second-frames-agree
 
   pub nothing-in-the-next-frame : (channel k : ℕ) → channel < 2 → 1 ≤ k → k ≤ 1152
       → sample (newOutput (third (behind knocking) m o)) channel k ≡ sample (newOutput (third (behind silent) n u)) channel k
@@ -157,7 +157,7 @@ rings-on-for-15-blocks = (
   second (behind silent) memory output,
   record {
     past = past-two knocked memory output long room;
-    past′ = past-two quiet memory output long room;
+    past′ = past-two unknocked memory output long room;
     remainder = remainder memory memory output output long long room room;
     agree = second-frames-agree memory memory output output long long room room;
     differs = λ same.

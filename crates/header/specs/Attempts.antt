@@ -1,5 +1,5 @@
 -- One header attempt by 01's table: the numbers 1 to 6 and 0, each given exactly when, in the order in which the header is read,
--- the place where reading goes on, and the byte of the sync's FF. From 01, "Numbers a call can give" and "From the bytes to a header". Assumes nothing.
+-- the place where reading goes on, and the byte of the sync's FF (02, E2). From 01, "Numbers a call can give" and "From the bytes to a header". Assumes nothing.
 use Prim.Native.Nat.{ℕ, _+_, _-_, _*_, _/_, _≤_, _<_}
 use mathlib.Core.Path.{_≡_, refl, sym, ap, subst, _∙_}
 use mathlib.Core.Bool.{Bool, true, false, cond, _&&_, _||_}
@@ -256,8 +256,8 @@ module _ (s : List ℕ) (r : Reader) (short : length s ≤ longestStream) (near 
         rated : Identified s q → S (run (ratesOf >>= byRates known (checked s q)) s (protection s q .next))
         rated l =
             rw (rates-course s q known, rest-course s q known)
-            (by-test S (noBitrate s q known) _ _ (λ b. four room y l (either _ b (λ e. inl (eqb-true _ _ e)) (λ e. inr (eqb-true _ _ e))))
-            (λ b. let n = neither (eqb (bitrate s q .value) 0) _ b in
+            (by-test S (noBitrate s q known) _ _ (λ t. four room y l (either _ t (λ e. inl (eqb-true _ _ e)) (λ e. inr (eqb-true _ _ e))))
+            (λ t. let n = neither (eqb (bitrate s q .value) 0) _ t in
             let u : BitrateGiven s q = record { ident = l; not-free = eqb-false _ _ (n .0); not-forbidden = eqb-false _ _ (n .1) } in
             by-test S (eqb (samplerate s q .value) 3) _ _ (λ f. five room y u (eqb-true _ _ f))
             (λ f. by-test S (other s q known) _ _ (λ d. six room y u (eqb-false _ _ f) (other-is-known s q known d) (other-is-not-same s q known d))

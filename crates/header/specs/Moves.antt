@@ -89,3 +89,13 @@ pub few-bits-stay : (s : List ℕ) (r : Reader) (known : Format) → length s �
     → headerOf s r known ≡ refusal 1 (byteAfterOf (r .at)) r
 unfolding headerOf startOf hasOf
 few-bits-stay s r known short near few = simp (le-ltb _ _ short, le-ltb _ _ near, lt-ltb _ _ few)
+
+-- a stream that is too long and a position that is too far are told before anything is sought
+pub long-streams-stay : (s : List ℕ) (r : Reader) (known : Format) → longestStream < length s → headerOf s r known ≡ refusal 8 (byteAfterOf (r .at)) r
+unfolding headerOf startOf hasOf
+long-streams-stay s r known long = simp (lt-ltb _ _ long)
+
+pub far-readers-stay : (s : List ℕ) (r : Reader) (known : Format) → length s ≤ longestStream → farthestBit < r .at .0
+    → headerOf s r known ≡ refusal 10 (byteAfterOf (r .at)) r
+unfolding headerOf startOf hasOf
+far-readers-stay s r known short far = simp (le-ltb _ _ short, lt-ltb _ _ far)

@@ -29,7 +29,7 @@ use Rattle.header.specs.Attempts.{past, elevenBits, from, stop, NoPair, 
 
 -- ---- the sync that an attempt met
 
--- no pair starts at any byte from the aligned start up to this one
+-- no pair starts at any byte from the aligned start up to this one; the last byte of a stream begins none
 abbrev pub NoneBefore : List ℕ → Reader → ℕ → Type 0
 NoneBefore s r n = (j : ℕ) → byteAfterOf (r .at) .0 ≤ j → j < n → j + 1 < length s → pairAt s j ≡ false
 
@@ -136,7 +136,7 @@ attempt-passed {s} {r} short near (five room y _ _) = met-passed 5 (λ e. omega 
 attempt-passed {s} {r} short near (six room y _ _ _ _) = met-passed 6 (λ e. omega arith) (λ e. omega arith) (sync-is-ff s r short near room y)
 attempt-passed {s} {r} short near (zero room y _ _ _) = met-passed 0 (λ e. omega arith) (λ e. omega arith) (sync-is-ff s r short near room y)
 
--- ---- for the code, whatever was asked: the sync lies at the aligned start or behind it, and not past the stream's end
+-- ---- for the code, whatever was asked: the sync lies at the aligned start or behind it, and not past the stream's end unless the start does
 
 abbrev Within : List ℕ → ℕ → BytePos → Type 0
 Within s b sync = (b ≤ sync .0) × (sync .0 ≤ max b (length s))

@@ -1,4 +1,5 @@
--- What an opening carries is no more than the stream has bytes, and what a line says was passed over no more than twice that.
+-- What a line says was passed over is what it was given. What an opening carries is no more than the stream has bytes, and what a line
+-- says no more than twice that.
 -- Assumes nothing.
 use Prim.Native.Nat.{ℕ, _+_, _*_, _≤_}
 use mathlib.Core.Path.{_≡_, refl}
@@ -29,7 +30,7 @@ opening-carries-few c s memory opened carried e f = rw (f, e) (by (openOf c s me
     by Known = open-passes-few c s memory
     by (HeadingRefused n) = omega arith
 
-line-skips : (number k : ℕ) (x : Answer) (a : Audio) → skippedIn (lineBy number k x a) ≡ k
+pub line-skips : (number k : ℕ) (x : Answer) (a : Audio) → skippedIn (lineBy number k x a) ≡ k
 line-skips number k (Frame time bits) a = refl
 line-skips number k (Refused n) a = by-test (λ (x : Line). skippedIn x ≡ k) (ends n) _ _ (λ _. refl) (λ _. refl)
 

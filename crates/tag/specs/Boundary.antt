@@ -19,7 +19,7 @@ use Rattle.riff.specs.Level.{wordsOf}
 use Rattle.clock.specs.Clock.{startTimeOf, sameBits, onTime}
 use Rattle.state.specs.State.{fresh, numbersOk, inRange}
 use Rattle.state.specs.declared.Audio.{Audio}
-use Rattle.verdict.specs.Verdict.{attemptOf, atOnceOf, knownOf}
+use Rattle.verdict.specs.Verdict.{attemptOf, headedOf, enoughOf, atOnceOf, readyOf, knownOf}
 use Rattle.verdict.specs.declared.Asked.{Asked}
 use Rattle.audio.specs.Calls.{noRoomOf, openOf, openMemory, formatOf, decodeOf, decodeMemory, decodeOutput}
 use Rattle.header.specs.declared.Reading.{Reading}
@@ -189,15 +189,32 @@ units =
       mode-is = refl;
     }
 
--- a zero byte and another one in front of a header, 64 kbps, 48,000 Hz, mono: an opening passes two bytes over
+-- a zero byte and another one in front of a header, 64 kbps, 48,000 Hz, mono, whose data are missing: an opening, a question and a decode
+-- call each pass two bytes over, and leave the same places, counts and time
 abbrev junk : List ℕ
 junk = 0x00 ∷ 0x01 ∷ 0xFF ∷ 0xFD ∷ 0x44 ∷ 0xC0 ∷ 0x00 ∷ 0x00 ∷ []
 
-pub two-passed : TagOpen (openOf plain junk (quiet memoryLength)) 0 (48 ∷ 1 ∷ 3 ∷ 0 ∷ 188 ∷ 0 ∷ 0 ∷ 2 ∷ [])
-    (3 ∷ 0 ∷ 0 ∷ 0 ∷ 0 ∷ 0 ∷ 0 ∷ 0 ∷ []) (fin false 0 (pos 0) ∷ [])
-unfolding openOf noRoomOf attemptOf fresh headerOf startOf syncOf seekOf searchOf hasOf skipBytesOf fieldOf readOf bitsValue bitAt firstFrom
+abbrev left : List ℕ
+left = 48 ∷ 1 ∷ 3 ∷ 0 ∷ 188 ∷ 0 ∷ 0 ∷ 2 ∷ []
+
+abbrev mono : List ℕ
+mono = 3 ∷ 0 ∷ 0 ∷ 0 ∷ 0 ∷ 0 ∷ 0 ∷ 0 ∷ []
+
+abbrev zero : List Float
+zero = fin false 0 (pos 0) ∷ []
+
+pub two-passed : TagOpen (openOf plain junk (quiet memoryLength)) 0 left mono zero
+    × TagFormat junk (fresh plain) 0 left mono zero (48000 ∷ []) (64 ∷ []) (3 ∷ [])
+    × TagDecode junk (quiet memoryLength) (quiet outputLength) (fresh plain) 7 (quiet memoryLength) (quiet outputLength) left mono zero zero (0 ∷ [])
+unfolding openOf noRoomOf formatOf knownOf decodeOf decodeMemory decodeOutput readyOf headedOf enoughOf atOnceOf attemptOf fresh inRange numbersOk onTime
+    sameBits startTimeOf isNan toBits div ofInt headerOf startOf syncOf seekOf searchOf hasOf skipBytesOf fieldOf readOf bitsValue bitAt firstFrom
     run _>>=_ fieldsOf identOf ratesOf restOf modeOf boundOf checkOf sizeOf
-two-passed = record { number-is = refl; state-is = record { places-hold = refl; counts-hold = refl; time-holds = refl } }
+two-passed =
+    let same : HeldIn 2 (stateOf left mono zero) left mono zero = record { places-hold = refl; counts-hold = refl; time-holds = refl } in (
+      record { number-is = refl; state-is = same },
+      record { number-is = refl; state-is = same; rate-is = refl; kbps-is = refl; mode-is = refl },
+      record { number-is = refl; memory-is = refl; output-is = refl; state-is = same; start-is = refl; bits-are = refl },
+    )
 
 -- beside a refusal there are zeros
 pub zeros-beside : (namedOf (ReplyRefused 2) ≡ record { number = 2; rate = 0; kbps = 0; mode = 0 })

@@ -276,10 +276,10 @@ by-asking s a Q long bad known sought =
     refused (nine l (inr o)) = absurd (omega arith)
     refused (ten room r) = bad (room .short) r
 
-not-known : {n : ℕ} → Refused n ≡ Known → ⊥
+pub not-known : {n : ℕ} → Refused n ≡ Known → ⊥
 not-known e = let z : _≡_ {A = ℕ} 0 1 = cc in omega arith
 
--- where a format is known, since long or just now, and so many bytes were passed over
+-- where a format is known, before or just now, and so many bytes were passed over
 by-knowing : (s : List ℕ) (a : Audio) (Q : ℕ → Audio → Type 0) → (inRange a ≡ true → (a .format .samplerate ≡ 3 → ⊥) → Q 0 a)
     → ((k : ℕ) (b : Audio) → inRange a ≡ true → Heads s a k b → Kept a (asked k Known b) → Q k b)
     → knownOf s a .answer ≡ Known → Q (knownOf s a .skipped) (knownOf s a .state)
