@@ -129,9 +129,9 @@ uint32_t tag_format(const uint8_t *stream, uint64_t stream_count,
 /* The next frame. Answers 0 to 10. With 0 the output's first TAG_OUTPUT values are the frame, `start` is its start in
  * seconds and `bits` how many bits it used. With another number memory and output stay, and start and bits are 0.
  * 1.0 is full scale. A loud clip goes beyond it on both sides, so values have to be held before a converter gets them.
- * TAG_PLACE_SKIPPED is how many bytes were passed over from where the last call stopped reading to this header's FF, also
- * with 3 to 6, and with 7 if the header was found just now; with 2 to the stream's end. What the last frame left unused is
- * among them. It is 0 where the header was found by an earlier call, and with 1, 8, 9 and 10. */
+ * TAG_PLACE_SKIPPED is how many bytes were passed over, from the next whole byte behind the last call to this header's FF,
+ * also with 3 to 6, and with 7 if the header was found just now; with 2 to the stream's end. What the last frame left unused
+ * is among them. It is 0 where the header was found by an earlier call, and with 1, 8, 9 and 10. */
 uint32_t tag_decode(const uint8_t *stream, uint64_t stream_count, float *memory, uint64_t memory_count,
                     float *output, uint64_t output_count,
                     uint64_t places[TAG_PLACES], uint32_t counts[TAG_COUNTS], double time[1],
@@ -172,7 +172,7 @@ static inline uint32_t tag_state_decode(struct tag_state *state, const uint8_t *
 }
 
 /* The bytes that the last call passed over. Added up over the opening and the questions until the format is told, they are
- * the junk in front of a clip. */
+ * the junk in front of a clip. Bytes that were taken for a header and refused are not among them. */
 static inline uint64_t tag_state_skipped(const struct tag_state *state) {
     return state->places[TAG_PLACE_SKIPPED];
 }

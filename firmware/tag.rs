@@ -187,8 +187,8 @@ impl Decoder {
     }
 
     /// The next frame, to the output's first 2,304 values. 1.0 is full scale, and a loud clip goes beyond it. A refusal
-    /// leaves memory and output. `skipped` is how many bytes were passed over from where the last call stopped reading; 0
-    /// where the header was found by an earlier call.
+    /// leaves memory and output. `skipped` is how many bytes were passed over from the next whole byte behind the last call;
+    /// 0 where the header was found by an earlier call.
     pub fn decode(&mut self, stream: &[u8], memory: &mut [f32], output: &mut [f32]) -> Result<Frame, Refusal> {
         let (mut start, mut bits) = ([0.0], [0]);
         let number = unsafe {
@@ -215,7 +215,8 @@ impl Decoder {
 
     /// The bytes that the last call passed over: up to the FF of the header that it met, also where that was refused, or
     /// with 2 up to the stream's end; 0 where no header was sought, and with 1, 8, 9 and 10. Added up over `new` and
-    /// `format` until the format is told, they are the junk in front of a clip.
+    /// `format` until the format is told, they are the junk in front of a clip. Bytes that were taken for a header and
+    /// refused are not among them.
     pub fn skipped(&self) -> u64 {
         self.places[place::SKIPPED]
     }
