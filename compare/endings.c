@@ -16,11 +16,12 @@ static void to_the_converter(const int16_t *samples);
 static uint8_t citrus[1 << 16], incident[1 << 16], too_long[TAG_STREAM + 1];
 static uint8_t junk[1 << 16]; /* two headers of layer III, then the citrus clip */
 static uint8_t text[1 << 16]; /* seven bytes of text, then the citrus clip */
-static uint64_t citrus_count, incident_count, junk_count, text_count;
+static uint8_t barred[1 << 16]; /* a silent frame of 320 kbps in mono, 1044 bytes, then the citrus clip */
+static uint64_t citrus_count, incident_count, junk_count, text_count, barred_count;
 static float memory[TAG_MEMORY], output[TAG_OUTPUT];
 static uint64_t calls, questions, budget, frames, heard, others, in_front;
 static uint32_t rate_set; /* the converter's; 0 before it was told one */
-static uint32_t to_come; /* calls that answer 13 and 14 in turn, numbers that are to come, before the library is asked */
+static uint32_t to_come; /* calls that answer 13 and 14 in turn, of which 14 is to come, before the library is asked */
 static unsigned compared, differ;
 
 /* The last line: how many comparisons, and how many differ. */
@@ -133,6 +134,24 @@ static void whole_clips(void) {
     same("no call after it", calls, 0);
 }
 
+/* The frame in front is played in the tolerant reading, and no frame of the clip is. The strict one refuses it with 13, which is
+ * no end: the header is four bytes, and the data is passed over as junk. */
+static void strict_reading(void) {
+    struct tag_state state;
+    played("320 kbps in mono in front", barred, barred_count, 0);
+    same("it alone is played", frames, 1);
+    begin(barred_count);
+    same("13", tag_state_open(&state, barred, barred_count, memory, TAG_MEMORY, TAG_CHOICE_STRICT), TAG_REFUSED_BARRED_RATE);
+    in_front = tag_state_skipped(&state);
+    same("the format behind it", ask(&state, barred, barred_count, &in_front), TAG_SUCCEEDED);
+    same("told at once", questions, 1);
+    same("its data", in_front, 1040);
+    same("the end behind it", play(&state, barred, barred_count, memory, TAG_MEMORY, output, TAG_OUTPUT, &others),
+         TAG_REFUSED_NO_HEADER_CAN_FOLLOW);
+    same("frames behind it", frames, 149);
+    same("none of another format", others, 0);
+}
+
 /* A clip that is cut, so that it ends with this number, and grows; and the same clip in one piece. When it is cut its
  * state is saved, and the one that was saved goes on. */
 static void grown_and_saved(uint64_t cut, uint32_t number) {
@@ -186,11 +205,15 @@ int main(int count, char **words) {
     junk_count = sizeof layer_iii + read_clip(words[1], junk + sizeof layer_iii, sizeof junk - sizeof layer_iii);
     memcpy(text, "scents:", 7);
     text_count = 7 + read_clip(words[1], text + 7, sizeof text - 7);
+    static const uint8_t mono_at_320[] = {0xFF, 0xFD, 0xD0, 0xC0};
+    memcpy(barred, mono_at_320, sizeof mono_at_320);
+    barred_count = 1044 + read_clip(words[1], barred + 1044, sizeof barred - 1044);
     lent_wrong("8", too_long, TAG_STREAM + 1, TAG_MEMORY, TAG_OUTPUT, TAG_REFUSED_LONG_STREAM, 0);
     lent_wrong("9, memory", citrus, citrus_count, TAG_MEMORY - 1, TAG_OUTPUT, TAG_REFUSED_LITTLE_ROOM, 0);
     lent_wrong("9, output", citrus, citrus_count, TAG_MEMORY, TAG_OUTPUT - 1, TAG_REFUSED_LITTLE_ROOM, 1);
     state_out_of_range();
     whole_clips();
+    strict_reading();
     /* The second header stands at byte 208: 3 bytes of it are fewer than 48 bits, and then a frame is cut. */
     grown_and_saved(211, TAG_REFUSED_NO_HEADER_CAN_FOLLOW);
     grown_and_saved(citrus_count / 2, TAG_REFUSED_CUT_OFF);

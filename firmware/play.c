@@ -1,6 +1,7 @@
 /* Plays a clip to a file, as a tag plays it to its converter; `usage` says how. speak.rs is the same in Rust. */
 #include "tag.h"
 #include <stdio.h>
+#include <string.h>
 
 #define LONGEST 65536 /* bytes of a clip; more would be cut, so it is refused */
 
@@ -11,10 +12,10 @@ static int16_t samples[TAG_OUTPUT];
 enum status { PLAYED = 0, TELL_THE_KEEPER = 1, NO_FILE = 2, OUR_MISTAKE = 3 };
 
 static const char usage[] =
-    "play CLIP SOUND\n"
+    "play CLIP SOUND [strict]\n"
     "Plays CLIP, at most 65536 bytes, to the file SOUND: samples of 16 bits, low byte first, left and right in turn.\n"
     "Standard output has the clip's format, the junk in front of it, a line for each call, and then what the keeper of the\n"
-    "clip has to know.\n"
+    "clip has to know. With the word strict a header is refused whose bit rate the standard does not have in its mode.\n"
     "Status: 0 the clip was played to its end, or to where it is cut off; 1 nothing was played, or a call was refused\n"
     "on the way; 2 wrong words, a clip that is too long, or a file that cannot be read or written; 3 a mistake of this\n"
     "player.\n";
@@ -33,6 +34,8 @@ static const char *words_of(uint32_t number) {
         "memory or output is too short",
         "the state is out of range",
     };
+    if (number == TAG_REFUSED_BARRED_RATE)
+        return "a bit rate that the standard does not have in this mode";
     return number < sizeof words / sizeof words[0] ? words[number] : "a number that this player does not know";
 }
 
@@ -77,8 +80,9 @@ static void tell_frame(const struct tag_state *state, const struct tag_frame *fr
 struct told {
     uint32_t number;       /* the last one */
     unsigned long frames;  /* that were played */
-    unsigned long refused; /* calls that were refused on the way, with 2 to 6 */
+    unsigned long refused; /* calls that were refused on the way, with 2 to 6 or 13 */
     unsigned long others;  /* of these, frames of another format: with 6 */
+    unsigned long barred;  /* and frames of a bit rate that the standard does not have in this mode: with 13 */
     unsigned long junk;    /* bytes in front of the first frame */
     int written;           /* whether the sound could be written */
 };
@@ -89,6 +93,7 @@ static void tell_refusal(const struct tag_state *state, struct told *told) {
     printf("%s %lu at %lu: %s\n", tag_ends(number) ? "end" : "refused", (unsigned long)number, at, words_of(number));
     told->refused += tag_goes_on(number) != 0;
     told->others += number == TAG_REFUSED_OTHER_FORMAT;
+    told->barred += number == TAG_REFUSED_BARRED_RATE;
 }
 
 static void tell_format(const struct tag_told *format) {
@@ -129,10 +134,10 @@ static void step(struct tag_state *state, uint64_t length, FILE *sound, struct t
     tell_refusal(state, told);
 }
 
-static struct told play(uint64_t length, FILE *sound) {
+static struct told play(uint64_t length, FILE *sound, uint32_t choices) {
     struct tag_state state;
-    struct told told = {0, 0, 0, 0, 0, 1};
-    told.number = tag_state_open(&state, stream, length, memory, TAG_MEMORY, 0);
+    struct told told = {0, 0, 0, 0, 0, 0, 1};
+    told.number = tag_state_open(&state, stream, length, memory, TAG_MEMORY, choices);
     told.junk = (unsigned long)tag_state_skipped(&state);
     if (told.number != TAG_SUCCEEDED && !tag_ends(told.number))
         tell_refusal(&state, &told);
@@ -158,8 +163,12 @@ static enum status tell_the_keeper(const struct told *told) {
         puts("the last frame is cut off: ask the maker of this clip whether it is whole");
     if (told->others != 0)
         printf("frames of another format, not played: %lu. Tell the maker of this clip\n", told->others);
-    if (told->refused != told->others)
-        printf("calls that found no frame: %lu. Tell the maker of this clip\n", told->refused - told->others);
+    if (told->barred != 0)
+        printf("frames of a bit rate that the standard does not have in this mode, not played: %lu. "
+               "Tell the maker of this clip\n", told->barred);
+    unsigned long rest = told->refused - told->others - told->barred;
+    if (rest != 0)
+        printf("calls that found no frame: %lu. Tell the maker of this clip\n", rest);
     return told->frames == 0 || told->refused != 0 ? TELL_THE_KEEPER : PLAYED;
 }
 
@@ -169,7 +178,8 @@ static enum status failed(const char *name, const char *what) {
 }
 
 int main(int count, char **words) {
-    if (count != 3)
+    int strict = count == 4 && strcmp(words[3], "strict") == 0;
+    if (count != 3 && !strict)
         return fputs(usage, stderr), NO_FILE;
     FILE *clip = fopen(words[1], "rb");
     if (clip == NULL)
@@ -184,7 +194,7 @@ int main(int count, char **words) {
     FILE *sound = fopen(words[2], "wb");
     if (sound == NULL)
         return failed(words[2], "cannot be written");
-    struct told told = play(length, sound);
+    struct told told = play(length, sound, strict ? TAG_CHOICE_STRICT : 0);
     if (fclose(sound) != 0 || !told.written)
         return failed(words[2], "cannot be written");
     return tell_the_keeper(&told);

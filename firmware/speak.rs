@@ -4,7 +4,7 @@ mod tag;
 
 use std::fs::File;
 use std::io::{Read, Write};
-use tag::{count, mode, place, samples16, Decoder, Format, Frame, Refusal, MEMORY, OUTPUT};
+use tag::{choice, count, mode, place, samples16, Decoder, Format, Frame, Refusal, MEMORY, OUTPUT};
 
 /// Bytes of a clip; more would be cut, so it is refused.
 const LONGEST: usize = 65_536;
@@ -14,10 +14,10 @@ const TELL_THE_KEEPER: i32 = 1;
 const NO_FILE: i32 = 2;
 const OUR_MISTAKE: i32 = 3;
 
-const USAGE: &str = "speak CLIP SOUND
+const USAGE: &str = "speak CLIP SOUND [strict]
 Plays CLIP, at most 65536 bytes, to the file SOUND: samples of 16 bits, low byte first, left and right in turn.
 Standard output has the clip's format, the junk in front of it, a line for each call, and then what the keeper of the
-clip has to know.
+clip has to know. With the word strict a header is refused whose bit rate the standard does not have in its mode.
 Status: 0 the clip was played to its end, or to where it is cut off; 1 nothing was played, or a call was refused
 on the way; 2 wrong words, a clip that is too long, or a file that cannot be read or written; 3 a mistake of this
 player.
@@ -35,6 +35,7 @@ fn words_of(refusal: Refusal) -> &'static str {
         Refusal::LONG_STREAM => "the stream is too long",
         Refusal::LITTLE_ROOM => "memory or output is too short",
         Refusal::BAD_STATE => "the state is out of range",
+        Refusal::BARRED_RATE => "a bit rate that the standard does not have in this mode",
         _ => "a number that this player does not know",
     }
 }
@@ -63,10 +64,12 @@ struct Told {
     last: Option<Refusal>,
     /// Frames that were played.
     frames: u32,
-    /// Calls that were refused on the way, with 2 to 6.
+    /// Calls that were refused on the way, with 2 to 6 or 13.
     refused: u32,
     /// Of these, frames of another format: with 6.
     others: u32,
+    /// And frames of a bit rate that the standard does not have in this mode: with 13.
+    barred: u32,
     /// Bytes in front of the first frame.
     junk: u64,
 }
@@ -89,6 +92,7 @@ impl Told {
         self.last = Some(refusal);
         self.refused += refusal.goes_on() as u32;
         self.others += (refusal == Refusal::OTHER_FORMAT) as u32;
+        self.barred += (refusal == Refusal::BARRED_RATE) as u32;
     }
 
     /// Whether a further call may give a frame.
@@ -138,16 +142,17 @@ fn heard(output: &[f32], sound: &mut File) -> std::io::Result<()> {
 
 /// On 6 the player goes on in the same stream and starts no other clip: the player that took it for the end read out the
 /// wrong jar.
-fn play(stream: &[u8], sound: &mut File) -> std::io::Result<Told> {
+fn play(stream: &[u8], sound: &mut File, choices: u32) -> std::io::Result<Told> {
     let (mut memory, mut output) = ([0.0; MEMORY], [0.0; OUTPUT]);
     let mut told = Told {
         last: None,
         frames: 0,
         refused: 0,
         others: 0,
+        barred: 0,
         junk: 0,
     };
-    let (mut d, opened) = Decoder::new(stream, &mut memory, 0);
+    let (mut d, opened) = Decoder::new(stream, &mut memory, choices);
     told.junk = d.skipped();
     match opened {
         Err(refusal) if !refusal.ends() => told.tell_refusal(&d, refusal),
@@ -186,9 +191,15 @@ fn tell_the_keeper(told: &Told) -> i32 {
             told.others
         );
     }
-    if told.refused != told.others {
-        let calls = told.refused - told.others;
-        println!("calls that found no frame: {calls}. Tell the maker of this clip");
+    if told.barred != 0 {
+        println!(
+            "frames of a bit rate that the standard does not have in this mode, not played: {}. Tell the maker of this clip",
+            told.barred
+        );
+    }
+    let rest = told.refused - told.others - told.barred;
+    if rest != 0 {
+        println!("calls that found no frame: {rest}. Tell the maker of this clip");
     }
     match told.frames == 0 || told.refused != 0 {
         true => TELL_THE_KEEPER,
@@ -201,7 +212,7 @@ fn failed(name: &str, what: &str) -> i32 {
     NO_FILE
 }
 
-fn run(clip: &str, sound: &str) -> i32 {
+fn run(clip: &str, sound: &str, choices: u32) -> i32 {
     let mut stream = Vec::new();
     let read = File::open(clip).and_then(|file| file.take(LONGEST as u64 + 1).read_to_end(&mut stream));
     if read.is_err() {
@@ -210,7 +221,7 @@ fn run(clip: &str, sound: &str) -> i32 {
     if stream.len() > LONGEST {
         return failed(clip, "has more than 65536 bytes: nothing was played");
     }
-    match File::create(sound).and_then(|mut file| play(&stream, &mut file)) {
+    match File::create(sound).and_then(|mut file| play(&stream, &mut file, choices)) {
         Ok(told) => tell_the_keeper(&told),
         Err(_) => failed(sound, "cannot be written"),
     }
@@ -219,7 +230,8 @@ fn run(clip: &str, sound: &str) -> i32 {
 fn main() {
     let words: Vec<String> = std::env::args().skip(1).collect();
     std::process::exit(match &words[..] {
-        [clip, sound] => run(clip, sound),
+        [clip, sound] => run(clip, sound, 0),
+        [clip, sound, strict] if strict == "strict" => run(clip, sound, choice::STRICT),
         _ => {
             eprint!("{USAGE}");
             NO_FILE

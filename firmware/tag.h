@@ -30,9 +30,9 @@
 extern "C" {
 #endif
 
-/* The numbers of document 01, with the names of crates/audio/specs/Numbers. tag_goes_on, tag_ends and tag_callers_mistake
- * below say what to do on each. 13 and 14 are to come and end nothing, so a loop goes by these functions and never by a
- * number's size. */
+/* The numbers of documents 01 and 02, with the names of crates/audio/specs/Numbers. tag_goes_on, tag_ends and
+ * tag_callers_mistake below say what to do on each. 13 ends nothing, nor does 14, which is to come, so a loop goes by these
+ * functions and never by a number's size. */
 enum tag_number {
     TAG_SUCCEEDED = 0,                    /* frame decoded, or header accepted */
     TAG_REFUSED_NO_HEADER_CAN_FOLLOW = 1, /* no header pending, fewer than 48 bits remain */
@@ -44,7 +44,8 @@ enum tag_number {
     TAG_REFUSED_CUT_OFF = 7,              /* the frame's data does not all remain */
     TAG_REFUSED_LONG_STREAM = 8,          /* stream above TAG_STREAM bytes */
     TAG_REFUSED_LITTLE_ROOM = 9,          /* memory under TAG_MEMORY, or output or samples under TAG_OUTPUT values */
-    TAG_REFUSED_BAD_STATE = 10            /* a state out of the ranges of document 01 */
+    TAG_REFUSED_BAD_STATE = 10,           /* a state out of the ranges of document 01 */
+    TAG_REFUSED_BARRED_RATE = 13          /* a bit rate that the standard does not have in this mode: TAG_CHOICE_STRICT */
 };
 
 #define TAG_STREAM 16777216 /* bytes that a stream has at most */
@@ -96,6 +97,10 @@ enum tag_count {
     TAG_COUNT_CHOICES /* the choices of the opening; the five numbers behind them are kept for later, 0 today */
 };
 
+/* What tag_open can be asked for. TAG_CHOICE_STRICT: 32, 48, 56 and 80 kbps in mono alone, 224, 256, 320 and 384 kbps never in
+ * mono, as the standard has it, and a header with another pair is refused with 13. Without it every pair is played. */
+enum tag_choice { TAG_CHOICE_STRICT = 1 };
+
 enum tag_mode { TAG_MODE_STEREO = 0, TAG_MODE_JOINT_STEREO = 1, TAG_MODE_TWO_CHANNELS = 2, TAG_MODE_MONO = 3 };
 
 /* What the library takes for granted. Where one does not hold, the array has a negative size and nothing is built. */
@@ -109,29 +114,30 @@ TAG_ASSERT(time, offsetof(struct tag_state, time) == 96);
 TAG_ASSERT(state, sizeof(struct tag_state) == 104);
 
 /* Opens a decoder: clears the first TAG_MEMORY values of the memory, makes a state, tries the first header.
- * Answers 0 to 5, 8 or 9. The decoder can go on after 0 to 5; after 8 or 9 nothing was cleared: open again.
- * TAG_PLACE_SKIPPED is how many bytes stand in front of that header's FF, also where it is refused with 3 to 5; with 2 all
- * bytes of the stream; with 1, 8 and 9 it is 0.
- * The bits of `choices` stand for other ways to read. None has an effect yet, and 0 is the only reading: give 0. */
+ * Answers 0 to 5, 13, 8 or 9. The decoder can go on after 0 to 5 and 13; after 8 or 9 nothing was cleared: open again.
+ * TAG_PLACE_SKIPPED is how many bytes stand in front of that header's FF, also where it is refused with 3 to 5 or 13; with 2
+ * all bytes of the stream; with 1, 8 and 9 it is 0.
+ * The bits of `choices` stand for other ways to read, see enum tag_choice. Give 0, or TAG_CHOICE_STRICT: the other bits have
+ * no effect yet. The choice holds until the next opening. */
 uint32_t tag_open(const uint8_t *stream, uint64_t stream_count, float *memory, uint64_t memory_count,
                   uint64_t places[TAG_PLACES], uint32_t counts[TAG_COUNTS], double time[1], uint32_t choices);
 
 /* The clip's format: samples a second, kilobits a second, and the mode, see enum tag_mode. If a header is known, its format
- * is told, whatever follows in the stream. If none is, the next one is tried. Answers 0 to 5, 8 or 10. With 0 the format
+ * is told, whatever follows in the stream. If none is, the next one is tried. Answers 0 to 5, 13, 8 or 10. With 0 the format
  * stays until the next opening. If its header was found just now, tag_decode does not seek it again: its frame comes next.
- * With another number the three are 0. With 2 to 5 the position has moved on, and asking again, or tag_decode, goes on from
- * there. TAG_PLACE_SKIPPED is how many bytes the attempt passed over, up to the header's FF, or with 2 up to the stream's end.
- * It is 0 where a header is known, and with 1, 8 and 10. */
+ * With another number the three are 0. With 2 to 5 and 13 the position has moved on, and asking again, or tag_decode, goes on
+ * from there. TAG_PLACE_SKIPPED is how many bytes the attempt passed over, up to the header's FF, or with 2 up to the stream's
+ * end. It is 0 where a header is known, and with 1, 8 and 10. */
 uint32_t tag_format(const uint8_t *stream, uint64_t stream_count,
                     uint64_t places[TAG_PLACES], uint32_t counts[TAG_COUNTS], double time[1],
                     uint32_t rate[1], uint32_t kbps[1], uint32_t mode[1]);
 
-/* The next frame. Answers 0 to 10. With 0 the output's first TAG_OUTPUT values are the frame, `start` is its start in
+/* The next frame. Answers 0 to 10, or 13. With 0 the output's first TAG_OUTPUT values are the frame, `start` is its start in
  * seconds and `bits` how many bits it used. With another number memory and output stay, and start and bits are 0.
  * 1.0 is full scale. A loud clip goes beyond it on both sides, so values have to be held before a converter gets them.
  * TAG_PLACE_SKIPPED is how many bytes were passed over, from the next whole byte behind the last call to this header's FF,
- * also with 3 to 6, and with 7 if the header was found just now; with 2 to the stream's end. What the last frame left unused
- * is among them. It is 0 where the header was found by an earlier call, and with 1, 8, 9 and 10. */
+ * also with 3 to 6 and 13, and with 7 if the header was found just now; with 2 to the stream's end. What the last frame left
+ * unused is among them. It is 0 where the header was found by an earlier call, and with 1, 8, 9 and 10. */
 uint32_t tag_decode(const uint8_t *stream, uint64_t stream_count, float *memory, uint64_t memory_count,
                     float *output, uint64_t output_count,
                     uint64_t places[TAG_PLACES], uint32_t counts[TAG_COUNTS], double time[1],

@@ -33,6 +33,13 @@ pub mod count {
     pub const CHOICES: usize = 2;
 }
 
+/// What `Decoder::new` can be asked for. The other bits have no effect yet.
+pub mod choice {
+    /// 32, 48, 56 and 80 kbps in mono alone, 224, 256, 320 and 384 kbps never in mono, as the standard has it: a header with
+    /// another pair is refused with 13. Without it every pair is played.
+    pub const STRICT: u32 = 1;
+}
+
 /// The calls themselves. A slice is lent as a pointer and a length, an array as a pointer.
 pub mod boundary {
     use super::{COUNTS, PLACES};
@@ -75,7 +82,7 @@ pub mod boundary {
     }
 }
 
-/// Why a call did not do what it was asked for: document 01's number, with the names of crates/audio/specs/Numbers.
+/// Why a call did not do what it was asked for: the number of document 01 or 02, with the names of crates/audio/specs/Numbers.
 #[derive(Clone, Copy, Debug, PartialEq, Eq)]
 pub struct Refusal(pub u32);
 
@@ -90,6 +97,8 @@ impl Refusal {
     pub const LONG_STREAM: Refusal = Refusal(8);
     pub const LITTLE_ROOM: Refusal = Refusal(9);
     pub const BAD_STATE: Refusal = Refusal(10);
+    /// A bit rate that the standard does not have in this mode; with `choice::STRICT` alone.
+    pub const BARRED_RATE: Refusal = Refusal(13);
 
     /// Whether no later call on the same stream decodes anything. If the stream grows, the next call goes on in it.
     pub fn ends(self) -> bool {
@@ -154,7 +163,8 @@ fn answer<T>(number: u32, value: T) -> Result<T, Refusal> {
 
 impl Decoder {
     /// Clears the memory and tries the first header. The decoder can go on, but after 8 or 9 nothing was cleared: open
-    /// again. `skipped` is how many bytes stand in front of that header's FF. No bit of `choices` does anything yet: give 0.
+    /// again. `skipped` is how many bytes stand in front of that header's FF. `choices` is 0 or `choice::STRICT`, and holds
+    /// until the next opening.
     pub fn new(stream: &[u8], memory: &mut [f32], choices: u32) -> (Decoder, Result<(), Refusal>) {
         let mut d = Decoder {
             places: [0; PLACES],

@@ -2,7 +2,7 @@
 // checksum of its samples (FNV-1a, 64 bits, over their patterns, low byte first). The Rust's stored answers look so.
 // `Decoder`, `Listing` and the compiled module are the page's. The function is sent to the browser as text, so all it needs
 // stands in it.
-export function answersOf({ Decoder, Listing }, module, stream) {
+export function answersOf({ Decoder, Listing }, module, stream, choices = 0) {
     const hex = (number) => number.toString(16).padStart(8, "0");
     const sum = (samples) => {
         const bytes = new Uint8Array(samples.buffer, samples.byteOffset, samples.byteLength);
@@ -15,7 +15,7 @@ export function answersOf({ Decoder, Listing }, module, stream) {
         }
         return hex(high) + hex(low);
     };
-    const decoder = new Decoder(module, stream), listing = new Listing(decoder, stream, 0), marks = [];
+    const decoder = new Decoder(module, stream), listing = new Listing(decoder, stream, choices), marks = [];
     for (let before = 0; !listing.done; before = decoder.frames) {
         listing.step();
         const [low, high] = new Uint32Array(new Float64Array([decoder.start]).buffer);

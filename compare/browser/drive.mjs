@@ -5,10 +5,12 @@ import * as stored from "./stored.mjs";
 import { compareContrast, compareKeys, compareNames, compareWidth } from "./looks.mjs";
 import { Page } from "./page.mjs";
 import { answersOf } from "./answers.mjs";
+import { strictLines, strictList } from "./strict.mjs";
 import { sleep } from "./chromium.mjs";
 import { REASONS } from "../../page/src/words.js";
 
 const VIEWS = ["listen", "incident", "ring-out", "try-it"];
+const module = () => stored.compiled("target/page/tag.wasm");
 const MADE = path.resolve("target/page/made");
 const AWAKE = 1000; // milliseconds that the page may be busy at most; listing itself would take several seconds
 
@@ -18,17 +20,17 @@ function made(name, bytes) {
     return path.join(MADE, name);
 }
 
-// The stored streams by the decoder of the page's own worker.
-async function compareStreams(count, page) {
+// The stored streams by the decoder of the page's own worker, in a reading.
+async function compareStreams(count, page, choices, wanted) {
     const files = stored.streams.map(({ name, stream }) => [name, Buffer.from(stream).toString("base64")]);
     const found = await page.run(`(async () => {
         const bytes = (text) => Uint8Array.from(atob(text), (letter) => letter.charCodeAt(0)), files = ${JSON.stringify(files)};
         const code = worker.textContent + ";self.onmessage = async ({ data }) => { const module = await WebAssembly.compile(data.decoder);" +
-            "self.postMessage(data.files.map(([name, stream]) => [name, ...(" + ${JSON.stringify(String(answersOf))} + ")({ ...in_tag, ...in_listing }, module, stream)].join('\\\\n')).join('\\\\n') + '\\\\n'); };";
+            "self.postMessage(data.files.map(([name, stream]) => [name, ...(" + ${JSON.stringify(String(answersOf))} + ")({ ...in_tag, ...in_listing }, module, stream, ${choices})].join('\\\\n')).join('\\\\n') + '\\\\n'); };";
         const other = new Worker(URL.createObjectURL(new Blob([code], { type: "text/javascript" })));
         other.postMessage({ decoder: bytes(decoder.textContent), files: files.map(([name, text]) => [name, bytes(text)]) });
         return await new Promise((answer, fail) => (other.onmessage = ({ data }) => answer(data), other.onerror = ({ message }) => fail(new Error(message)))); })()`);
-    count.lines(found, stored.rust, "the lines of the stored streams, in the browser");
+    count.lines(found, wanted, "the lines of the stored streams, in the browser");
 }
 
 // Every stored stream opened as a file, its list and its WAV file saved.
@@ -44,6 +46,7 @@ async function compareFiles(count, page) {
 
 const VERDICTS = {
     citrus: "149 frames, 3.89 s; ended with 1: no header can follow.",
+    "citrus-320": "32 frames, 0.84 s; refused 2, once: no sync found; ended with 1: no header can follow.",
     lavender: "154 frames, 4.02 s; ended with 1: no header can follow.",
     incident: "149 frames, 3.89 s; refused 6, 154 times: the header says 48 kbps, the clip began with 64; refused 2, once: no sync found; ended with 1: no header can follow.",
     "joined-alike": "22 frames, 0.53 s; ended with 1: no header can follow.",
@@ -58,7 +61,7 @@ async function compareClips(count, page) {
         if (VERDICTS[name]) count.same(await page.text("line"), VERDICTS[name], `the verdict of ${name}`);
         count.holds((await page.text("shows")).length > 20, `${name} has a sentence`);
     }
-    count.same(await page.run("readings.hidden"), true, "no switch is shown that does nothing");
+    count.same(await page.run("[...document.querySelectorAll('#readings input')].map(({ id, checked }) => `${id} ${checked}`).join()"), "reading-0 false", "one switch, and it is off");
 }
 
 const isOn = (name) => `document.getElementById("${name}").textContent === "Stop"`;
@@ -135,7 +138,7 @@ async function compareIncident(count, page) {
     await page.view("incident");
     await page.keep("incident");
     const reasons = await page.run("[...document.querySelectorAll('[data-reason]')].map(({ textContent }) => textContent)");
-    count.same(reasons.join(), [6, 1, 1, 2, 3, 4, 5, 6, 7].map((number) => `${number}: ${REASONS[number]}`).join(), "the reasons in the incident and among the words");
+    count.same(reasons.join(), [6, 1, 1, 2, 3, 4, 5, 6, 7, 13].map((number) => `${number}: ${REASONS[number]}`).join(), "the reasons in the incident and among the words");
     const heard = (id) => page.run(`document.querySelector("#parts-${id} [aria-current]")?.textContent ?? ""`);
     for (const [id, ms, words] of [["old", 5500, "At the lavender jar: “Citrus jar."], ["ours", 5200, "No other clip is started"], ["mended", 1000, "Lavender jar. Contains linalool"]]) {
         await page.click(`#play-${id}`);
@@ -334,19 +337,67 @@ async function compareLooks(count, page) {
     }
 }
 
-// The place for readings, in a copy of the page that has one. It has no effect, so both verdicts are the same.
-async function compareReadings(count, browser) {
-    const text = fs.readFileSync("page/listen.html", "utf8"), one = `{ bit: 0, name: "made up", sentence: "a reading for this test.", clip: "citrus" }`;
-    count.same(text.split("const READINGS = [];").length, 2, "the page has its list of readings, and it is empty");
-    const page = new Page(browser);
-    await page.open(made("readings.html", text.replace("const READINGS = [];", () => `const READINGS = [${one}];`)));
-    count.same(await page.run("readings.hidden"), false, "a reading has its switch");
+// The switch "Strict", beside what the specs and the own reading say of it: a clip that shows it, both verdicts, off and on
+// again, and other clips while it is on.
+const BARRED = "In mono ask for 192 kbps or less. In stereo ask for 64 kbps, or for 96 and more.";
+const STRICT_CLIP = {
+    judgement: "✖ Nothing here can be played.",
+    line: "0 frames; refused 13, 32 times: the header says 320 kbps in mono, which the standard does not have; refused 2, once: no sync found; ended with 1: no header can follow.",
+    beside: `Read plainly: Every frame was played. ${VERDICTS["citrus-320"]}`,
+    legend: "headers refused with 13, 128 bytespassed over behind 13, 33,280 bytes",
+    chosen: "▲ refused 13 refused 13 at 3 skipped 0: a bit rate that the standard does not have in this mode: the header says 320 kbps in mono, which the standard does not have. " +
+        "Its header, at byte 0, says 44,100 samples a second, 320 kbps, mono.",
+};
+const besideIs = `!beside.hidden && beside.textContent`;
+
+async function compareStrictClip(count, page) {
+    count.same(await page.run(`document.getElementById("reading-0").checked`), false, "the switch is off");
     await page.click("#readings button");
-    await page.until(`line.textContent.startsWith("149 frames, 3.89 s; ended")`);
+    await page.until(besideIs);
+    count.same(await page.run(`document.getElementById("reading-0").checked + pick.value`), "truecitrus-320", "the clip that shows it is read in it");
+    for (const [id, words] of Object.entries(STRICT_CLIP)) count.same(await page.text(id), words, `320 kbps mono, read strictly: ${id}`);
+    count.holds((await page.text("advice")).includes(BARRED), `its advice: ${await page.text("advice")}`);
+    count.same(await page.run("sound.hidden && !refusal.hidden"), true, "there is no sound, and a first refusal to go to");
+    const tints = await page.run(`[...document.querySelectorAll("#legend i")].map((square) => getComputedStyle(square).backgroundColor)`);
+    count.holds(tints.length === 2 && tints.every((tint) => tint.startsWith("rgb(")), `13 has its colours: ${tints}`);
+    count.same((await page.saved("#save-list", "citrus-320.txt")).toString(), strictList(module(), stored.clips.barred), "its list as it was saved");
+    await page.keep("strict");
+}
+
+async function compareReadings(count, browser) {
+    const page = new Page(browser), { citrus, barred } = stored.clips, mixed = Buffer.concat([citrus.subarray(0, 832), barred.subarray(0, 2088), citrus.subarray(832, 1664)]);
+    await page.open(path.resolve("page/listen.html"));
+    await compareStrictClip(count, page);
     await page.click("#reading-0");
-    await page.until("!beside.hidden && beside.textContent");
-    count.same(await page.text("beside"), `Read plainly: ${await page.text("line")}`, "two readings side by side");
-    await page.keep("readings");
+    await page.until(`line.textContent.startsWith("32 frames")`);
+    count.same(await page.text("judgement"), "✔ Every frame was played.", "the switch turned off");
+    count.same(await page.run("beside.hidden"), true, "one reading, one verdict");
+    await page.click("#reading-0");
+    await page.until(besideIs);
+    count.same(await page.text("line"), STRICT_CLIP.line, "the switch turned on again");
+    count.same(await page.run(`(pick.value = "lavender", pick.dispatchEvent(new Event("change")), beside.hidden)`), true, "while the next clip is read the last one's plain verdict is gone");
+    await page.pick("incident");
+    await page.until(besideIs);
+    count.same(await page.text("line"), VERDICTS.incident, "the incident has no 13");
+    count.same(await page.text("beside"), `Read plainly: Do not use this clip yet: something is wrong with the file. ${VERDICTS.incident}`, "its plain verdict is the same");
+    await page.give("crates/replay/data/rate-48000-kbps-056-mode-1.mp2");
+    count.holds((await page.text("line")).includes("the header says 56 kbps in joint stereo, which the standard does not have"), `56 kbps in joint stereo: ${await page.text("line")}`);
+    count.holds((await page.text("advice")).includes(BARRED), "its advice");
+    await page.give(made("mixed.mp2", mixed));
+    await page.until(besideIs);
+    count.holds((await page.text("line")).startsWith("8 frames, 0.21 s; refused 13, 2 times: the header says 320 kbps in mono"), `two frames of 320 kbps among eight: ${await page.text("line")}`);
+    count.same(await page.run("advice.children.length"), 1, "no byte of it stands in no frame");
+    count.holds((await page.text("beside")).includes("8 frames, 0.21 s; refused 6, 2 times: the header says 320 kbps, the clip began with 64"), `the same, read plainly: ${await page.text("beside")}`);
+    await compareNames(count, page, "strict");
+    await compareKeys(count, page, "strict");
+    for (const [wide, scheme] of [[1180, "light"], [1180, "dark"], [320, "dark"]]) {
+        await page.size(wide, 900, scheme);
+        await sleep(150);
+        await compareContrast(count, page, `strict, ${scheme}`);
+        await compareWidth(count, page, `strict, ${wide}`);
+        await page.keep(`strict-${wide}-${scheme}`);
+    }
+    for (const trouble of page.troubles()) count.holds(false, trouble);
     await page.start(made("too-long.mp2", Buffer.alloc(16777217)));
     count.same(await page.run("beside.hidden"), true, "no reading of another clip stands under a file that is too long");
     count.same(await page.run(`new Promise((told) => { addEventListener("securitypolicyviolation", ({ effectiveDirective }) => told(effectiveDirective));
@@ -372,7 +423,8 @@ export async function drive(count, browser) {
         await page.open(opened);
         console.log((await page.send("Browser.getVersion")).product);
         await pictures(page);
-        await count.part("browser beside the Rust's stored answers", () => compareStreams(count, page));
+        await count.part("browser beside the Rust's stored answers", () => compareStreams(count, page, 0, stored.rust));
+        await count.part("the strict reading in the browser", () => compareStreams(count, page, 1, strictLines(module())));
         const parts = { "built-in clips": compareClips, sound: compareSound, bytes: compareBytes, incident: compareIncident, "ring-out in the browser": compareRing, exercises: compareTries,
             "a stream of one's own": compareOwn, "files that are no clip": compareOthers, "a folder": compareFolder, "a dropped file": compareDrop, "the longest streams": compareLong, "for everybody": compareLooks, "files saved": compareFiles };
         for (const [words, part] of Object.entries(parts)) await count.part(words, () => part(count, page));
@@ -381,5 +433,5 @@ export async function drive(count, browser) {
     } finally {
         await page.close();
     }
-    await count.part("the place for readings", () => compareReadings(count, browser));
+    await count.part("the switch “Strict”", () => compareReadings(count, browser));
 }

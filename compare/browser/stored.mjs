@@ -19,7 +19,7 @@ const bytesOf = (file) => new Uint8Array(fs.readFileSync(file));
 export const compiled = (file) => new WebAssembly.Module(fs.readFileSync(file));
 export const names = fs.readdirSync(DATA).filter((name) => name !== LONG).sort();
 export const streams = names.map((name) => ({ name, stream: bytesOf(`${DATA}/${name}`) }));
-export const clips = { citrus: bytesOf("clips/citrus.mp2"), lavender: bytesOf("clips/lavender.mp2"), alike: bytesOf(`${DATA}/joined-alike.mp2`) };
+export const clips = { citrus: bytesOf("clips/citrus.mp2"), lavender: bytesOf("clips/lavender.mp2"), barred: bytesOf("clips/strict/citrus-320.mp2"), alike: bytesOf(`${DATA}/joined-alike.mp2`) };
 
 // The Rust's stored answers, without those of the stream that is too long for the lister.
 export const rust = fs.readFileSync("crates/replay/stdout", "utf8").replace(`${LONG}\nlong\n`, "");
@@ -37,7 +37,7 @@ function pageWav(module, stream) {
 }
 
 export function compareWavs(count, module) {
-    const all = [...streams, { name: "citrus", stream: clips.citrus }, { name: "lavender", stream: clips.lavender }];
+    const all = [...streams, ...["citrus", "lavender", "barred"].map((name) => ({ name, stream: clips[name] }))];
     for (const { name, stream } of all) count.holds(pageWav(module, stream).equals(wavOf(stream)), `the WAV file of ${name}`);
 }
 
@@ -51,10 +51,11 @@ function numbersOf(specs, name) {
 
 // What the specs say in words stands in the page as it is, and after the same numbers no call follows.
 export function compareWords(count) {
-    const specs = fs.readFileSync("crates/listing/specs/Words.antt", "utf8"), letters = (part) => [...part.matchAll(/letters "(.*?)"/g)].map((found) => found[1]);
-    const [reasons, modes] = ["reasonOf n =", "modeWords n ="].map((name) => letters(specs.split(name)[1].split("\n\n")[0]));
-    count.same(REASONS.slice(1).join(), reasons.slice(0, -1).join(), "the reasons");
-    count.same(MODES.join(), modes.join(), "the modes");
+    const specs = fs.readFileSync("crates/listing/specs/Words.antt", "utf8"), part = (name) => specs.split(name)[1].split("\n\n")[0];
+    const { 0: _, ...refusals } = REASONS, told = Object.entries(refusals).map((pair) => pair.join(": "));
+    const reasons = [...part("reasonOf n =").matchAll(/\(eqb n (\d+)\) \(letters "(.*?)"/g)].map(([, number, words]) => `${number}: ${words}`);
+    count.same(told.join("; "), reasons.join("; "), "the reasons");
+    count.same(MODES.join(), [...part("modeWords n =").matchAll(/letters "(.*?)"/g)].map((found) => found[1]).join(), "the modes");
     const numbers = fs.readFileSync("crates/audio/specs/Numbers.antt", "utf8"), last = ["ends", "callersMistake"].flatMap((name) => numbersOf(numbers, name));
     for (let number = 0; number <= 14; number++) count.same(goesOn(number), !last.includes(number), `whether a call may follow ${number}`);
 }

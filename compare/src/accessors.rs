@@ -20,6 +20,15 @@ impl Audio {
         self.decode_header()
     }
 
+    /// An attempt that is refused behind the header's mode, as any is whose format is not the known one: for the while the
+    /// known mode is one that no header has. The format stays, known or not.
+    pub fn refuse_behind_mode(&mut self) {
+        let before = (self.mode, self.has_header);
+        (self.mode, self.has_header) = (4, true);
+        self.next_frame_data_size = self.decode_header();
+        (self.mode, self.has_header) = before;
+    }
+
     pub fn format(&self) -> Format {
         Format {
             samplerate_index: self.samplerate_index,

@@ -1,7 +1,8 @@
 //! The Rust's answers on every stream of a folder, as the program `replay` prints the port's: for each file its name,
-//! then 01's listing, each frame's line with the bits of its start time and a checksum of its samples.
+//! then 01's listing, each frame's line with the bits of its start time and a checksum of its samples. In the strict reading of
+//! 02 (E3) the third reading tells which headers are a 13; these the Rust is made to refuse as it refuses with 6.
 
-use crate::by_01::{by_01, decode_by_01, Reading};
+use crate::by_01::{attempt, by_01, decode_call, Reading};
 use crate::files::files;
 use crate::source::traced::audio::{Audio, Samples};
 use crate::source::NO_FORMAT;
@@ -23,10 +24,16 @@ fn same_sync(audio: &Audio, told: Reading) {
 }
 
 /// One decode call by the Rust, with 01's and 02's reading of it.
-fn decoded(audio: &mut Audio, stream: &[u8]) -> (Option<Samples>, Reading) {
+fn decoded(audio: &mut Audio, stream: &[u8], strict: bool) -> (Option<Samples>, Reading) {
     let pending = audio.pending();
-    let told = decode_by_01(stream, audio.at(), audio.format(), pending);
-    let answer = audio.decode();
+    let told = decode_call(stream, audio.at(), audio.format(), pending, strict);
+    let answer = match told.number {
+        13 => {
+            audio.refuse_behind_mode();
+            None
+        }
+        _ => audio.decode(),
+    };
     assert_eq!(answer.is_some(), told.number == 0, "the Rust and 01 differ on {told:?}");
     if pending == 0 {
         same_sync(audio, told);
@@ -35,17 +42,22 @@ fn decoded(audio: &mut Audio, stream: &[u8]) -> (Option<Samples>, Reading) {
 }
 
 /// The opening by the Rust, with 01's and 02's reading of it.
-fn opened(stream: &[u8]) -> (Audio, Reading) {
-    let told = by_01(stream, 0, NO_FORMAT);
-    let audio = Audio::new(stream.to_vec());
+fn opened(stream: &[u8], strict: bool) -> (Audio, Reading) {
+    let told = attempt(stream, 0, NO_FORMAT, strict);
+    let mut audio = Audio::new(stream.to_vec());
+    if told.number == 13 {
+        audio.stand(stream, 0, NO_FORMAT);
+        audio.refuse_behind_mode();
+    }
     assert_eq!((audio.at(), audio.pending()), (told.at, told.size), "the opening");
     same_sync(&audio, told);
     (audio, told)
 }
 
-/// One decode call: its line, and whether it is the last. What an accepted opening passed over is counted with it.
-fn call(audio: &mut Audio, stream: &[u8], frames: usize, opening: usize) -> (String, bool) {
-    let (answer, told) = decoded(audio, stream);
+/// One decode call: its line, and whether it is the last.
+fn call(audio: &mut Audio, stream: &[u8], strict: bool, frames: usize, opening: usize) -> (String, bool) {
+    let (answer, told) = decoded(audio, stream, strict);
+    // What an accepted opening passed over is counted with its frame.
     let skipped = opening + told.skipped;
     let Some(samples) = answer else {
         assert_eq!((audio.at(), audio.pending()), (told.at, told.size), "after a refusal");
@@ -72,20 +84,20 @@ fn call(audio: &mut Audio, stream: &[u8], frames: usize, opening: usize) -> (Str
 const LONGEST: usize = 65_536;
 
 /// The listing of one stream: calls until 1 or 7.
-fn listing(stream: &[u8]) -> Vec<String> {
+fn listing(stream: &[u8], strict: bool) -> Vec<String> {
     if stream.len() > LONGEST {
         return vec!["long".to_string()];
     }
-    let (mut audio, opening) = opened(stream);
+    let (mut audio, opening) = opened(stream, strict);
     let (mut lines, mut carried) = (Vec::new(), opening.skipped);
-    if (2..=5).contains(&opening.number) {
+    if [2, 3, 4, 5, 13].contains(&opening.number) {
         let (number, at) = (opening.number, opening.at / 8);
         lines.push(format!("refused {number} at {at} skipped {carried}"));
         carried = 0;
     }
     let mut frames = 0;
     loop {
-        let (line, last) = call(&mut audio, stream, frames, carried);
+        let (line, last) = call(&mut audio, stream, strict, frames, carried);
         frames += line.starts_with("frame") as usize;
         carried = 0;
         lines.push(line);
@@ -95,10 +107,10 @@ fn listing(stream: &[u8]) -> Vec<String> {
     }
 }
 
-pub fn print(folder: &Path) {
+pub fn print(folder: &Path, strict: bool) {
     for (path, stream) in files(folder) {
         println!("{}", path.file_name().unwrap().to_string_lossy());
-        listing(&stream).iter().for_each(|line| println!("{line}"));
+        listing(&stream, strict).iter().for_each(|line| println!("{line}"));
     }
 }
 
@@ -139,12 +151,12 @@ fn format_told(audio: &mut Audio, stream: &[u8]) -> String {
 pub fn across() {
     let mut stream = Vec::new();
     std::io::stdin().read_to_end(&mut stream).expect("a stream");
-    let (mut audio, opening) = opened(&stream);
+    let (mut audio, opening) = opened(&stream, false);
     println!("open {} {}", opening.number, state(&audio, opening.skipped));
     println!("{}", format_told(&mut audio, &stream));
     loop {
         let start = audio.clock().1;
-        let (answer, Reading { number, skipped, .. }) = decoded(&mut audio, &stream);
+        let (answer, Reading { number, skipped, .. }) = decoded(&mut audio, &stream, false);
         let Some(samples) = answer else {
             println!("decode {number} {}", state(&audio, skipped));
             if [1, 7].contains(&number) {

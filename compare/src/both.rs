@@ -2,14 +2,19 @@
 //! the state with the bits of its time, a frame's start and the bits it used, memory and output by their bits, and
 //! what is lent beyond them; of a frame also its 16-bit samples. The Rust answers a refusal with None; its number is told
 //! by `by_01`, and so is what a call passed over; what 16 bits a sample has is told by `by_02`.
+//!
+//! The Rust has one reading, the tolerant one. In the strict reading `by_01` tells of each attempt whether it is a 13. Then the
+//! Rust is made to refuse that header as it refuses one with 6, so its position is the Rust's own, and goes on from there;
+//! every other call is the Rust's.
 
-use crate::by_01::{by_01, decode_by_01};
+use crate::by_01::{attempt, decode_call};
 use crate::by_02::steps;
-use crate::firmware::{self, place, samples16, Decoder, Refusal, COUNTS, MEMORY, OUTPUT, PLACES};
+use crate::firmware::{self, count, place, samples16, Decoder, Refusal, COUNTS, MEMORY, OUTPUT, PLACES};
 use crate::saved::{any, fresh, written};
 use crate::seeded::Seeded;
-use crate::source::traced::audio::Audio;
+use crate::source::traced::audio::{Audio, Samples};
 use crate::source::{Format, NO_FORMAT};
+use crate::strict;
 use crate::tally::{hex, Tally};
 
 /// Stands in what is lent beyond what a call asks for, and in an output that no frame has reached.
@@ -33,6 +38,7 @@ pub struct Both<'a> {
     /// What must stand in the numbers that the Rust has not: the choices, what the last call passed over, and what is kept
     /// for later.
     rest: Decoder,
+    strict: bool,
     /// The Rust's last frame.
     heard: Vec<f32>,
 }
@@ -91,11 +97,23 @@ fn difference(lent: &[f32], expected: &[&[f32]]) -> Option<(usize, u32, u32)> {
     None
 }
 
+/// The Rust on a stream whose first header was tried; one that is a 13 it was made to refuse.
+fn opened_on(stream: &[u8], number: u32) -> Audio {
+    if number != 13 {
+        return Audio::new(stream.to_vec());
+    }
+    let mut audio = Audio::new(Vec::new());
+    audio.stand(stream, 0, NO_FORMAT);
+    audio.refuse_behind_mode();
+    audio
+}
+
 impl<'a> Both<'a> {
     /// Opens both on a stream, with so many values lent beyond memory and output. The Rust knows no choices.
     pub fn open(tally: &'a mut Tally, name: &'a str, stream: &[u8], beyond: usize, choices: u32) -> Self {
         let mut memory = vec![GUARD; MEMORY + beyond];
-        let told = by_01(stream, 0, NO_FORMAT);
+        let strict = strict::chosen(choices);
+        let told = attempt(stream, 0, NO_FORMAT, strict);
         let (ours, opened) = Decoder::new(stream, &mut memory, choices);
         let mut both = Both {
             tally,
@@ -104,8 +122,9 @@ impl<'a> Both<'a> {
             ours,
             memory,
             output: vec![GUARD; OUTPUT + beyond],
-            audio: Audio::new(stream.to_vec()),
+            audio: opened_on(stream, told.number),
             rest: written(&fresh(choices), told.skipped),
+            strict,
             heard: vec![GUARD; OUTPUT],
         };
         both.answered("opening", told.number, number_of(opened), told.number, stream);
@@ -136,6 +155,7 @@ impl<'a> Both<'a> {
             memory,
             audio,
             rest: ours,
+            strict: strict::chosen(ours.counts[count::CHOICES]),
             heard: vec![GUARD; OUTPUT],
         }
     }
@@ -148,15 +168,18 @@ impl<'a> Both<'a> {
         format!("{name}, call {calls}, {}", hex(stream))
     }
 
-    /// Compares an answer and the state after it; `number` is the one that groups it.
+    /// Compares an answer and the state after it; `number` is the one that groups it, in each reading by itself.
     fn answered<T: PartialEq + std::fmt::Debug>(&mut self, call: &str, number: u32, ours: T, told: T, stream: &[u8]) {
         self.calls += 1;
         let after = source_state(&self.audio, &self.rest);
         let (name, calls, state) = (self.name, self.calls, self.state());
-        self.tally
-            .same(&format!("{call} {number}"), (ours, state), (told, after), || {
-                Self::say(name, calls, stream)
-            });
+        let reading = if self.strict { "strict: " } else { "" };
+        self.tally.same(
+            &format!("{reading}{call} {number}"),
+            (ours, state),
+            (told, after),
+            || Self::say(name, calls, stream),
+        );
     }
 
     /// Compares memory and output.
@@ -188,13 +211,13 @@ impl<'a> Both<'a> {
         let (number, skipped) = match self.audio.knows_header() {
             true => (0, 0),
             false => {
-                let sought = by_01(stream, self.audio.at(), NO_FORMAT);
+                let sought = attempt(stream, self.audio.at(), NO_FORMAT, self.strict);
                 (sought.number, sought.skipped)
             }
         };
         let ours = self.ours.format(stream);
         self.rest = written(&self.rest, skipped);
-        let told = match self.audio.has_header() {
+        let told = match self.asked(number) {
             true => Ok(firmware::Format {
                 rate: self.audio.samplerate(),
                 kbps: self.audio.kbps() as u32,
@@ -210,13 +233,32 @@ impl<'a> Both<'a> {
         }
     }
 
+    /// The Rust's question for a header: whether it knows one. A 13 it is made to refuse.
+    fn asked(&mut self, number: u32) -> bool {
+        if number == 13 {
+            self.audio.refuse_behind_mode();
+            return false;
+        }
+        self.audio.has_header()
+    }
+
+    /// The Rust's next frame. A 13 it is made to refuse.
+    fn played(&mut self, number: u32) -> Option<Samples> {
+        if number == 13 {
+            self.audio.refuse_behind_mode();
+            return None;
+        }
+        self.audio.decode()
+    }
+
     /// One decode call on both.
     pub fn decode(&mut self, stream: &[u8]) {
-        let reading = decode_by_01(stream, self.audio.at(), self.audio.format(), self.audio.pending());
+        let (at, known, pending) = (self.audio.at(), self.audio.format(), self.audio.pending());
+        let reading = decode_call(stream, at, known, pending, self.strict);
         let answer = self.ours.decode(stream, &mut self.memory, &mut self.output);
         let ours = answer.map(|frame| (frame.start.to_bits(), frame.bits));
         self.rest = written(&self.rest, reading.skipped);
-        let told = match self.audio.decode() {
+        let told = match self.played(reading.number) {
             Some(samples) => {
                 self.heard = samples.interleaved;
                 Ok((samples.time.to_bits(), self.audio.used().1 as u64))

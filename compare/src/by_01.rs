@@ -1,9 +1,10 @@
 //! A reading of 01 that shares no code with the port or the Rust: it tells which number belongs to a refusal, and by 02's
-//! words (E2) how many bytes were passed over. Where it is used its position and size must be the Rust's, and in `header` and
-//! `answers` the byte of its FF too, so it can be wrong only where neither can tell.
+//! words how many bytes were passed over (E2) and what the strict reading refuses (E3). Where it is used its position and size
+//! must be the Rust's, and in `header` and `answers` the byte of its FF too, so it can be wrong only where neither can tell.
 #![cfg_attr(layer = "reader", allow(dead_code))]
 
 use crate::source::Format;
+use crate::strict;
 
 /// A stream and a bit position, for the reading of 01.
 struct Fields<'a> {
@@ -99,7 +100,14 @@ impl Reading {
     }
 }
 
+/// An attempt in 01's reading, the tolerant one.
+#[cfg(not(layer = "decode"))]
 pub fn by_01(stream: &[u8], at: usize, known: Format) -> Reading {
+    attempt(stream, at, known, false)
+}
+
+/// An attempt in either reading.
+pub fn attempt(stream: &[u8], at: usize, known: Format, strict: bool) -> Reading {
     let mut r = Fields { stream, at };
     if r.left() < 48 {
         return Reading::unsought(1, at, 0);
@@ -107,7 +115,7 @@ pub fn by_01(stream: &[u8], at: usize, known: Format) -> Reading {
     let found = r.sync();
     let (sync, skipped) = r.passed(at.div_ceil(8), found);
     let (number, size) = match found {
-        Some(_) => behind_sync(&mut r, known),
+        Some(_) => behind_sync(&mut r, known, strict),
         None => (2, 0),
     };
     Reading {
@@ -119,8 +127,8 @@ pub fn by_01(stream: &[u8], at: usize, known: Format) -> Reading {
     }
 }
 
-/// The header's fields: 01's number, and the data size.
-fn behind_sync(r: &mut Fields, known: Format) -> (u32, usize) {
+/// The header's fields: the number, and the data size. 02 of 13: "after 5 and before 6; position as for 6".
+fn behind_sync(r: &mut Fields, known: Format, strict: bool) -> (u32, usize) {
     let (version, layer, unprotected) = (r.field(2), r.field(2), r.field(1));
     if version != 3 || layer != 2 {
         return (3, 0);
@@ -134,6 +142,9 @@ fn behind_sync(r: &mut Fields, known: Format) -> (u32, usize) {
         return (5, 0);
     }
     let (padding, _private, mode) = (r.field(1), r.field(1), r.field(2));
+    if strict && !strict::has(bitrate, mode) {
+        return (13, 0);
+    }
     let format = (samplerate, bitrate - 1, mode);
     if known.samplerate_index != 3 && format != (known.samplerate_index, known.bitrate_index, known.mode % (1 << 32)) {
         return (6, 0);
@@ -147,10 +158,15 @@ fn behind_sync(r: &mut Fields, known: Format) -> (u32, usize) {
 }
 
 /// The same for a decode call, with the size of a pending header or 0. A frame's position is its first allocation bit.
-#[cfg(any(layer = "answers", layer = "decode", layer = "wav"))]
+#[cfg(any(layer = "decode", layer = "wav"))]
 pub fn decode_by_01(stream: &[u8], at: usize, known: Format, pending: usize) -> Reading {
+    decode_call(stream, at, known, pending, false)
+}
+
+/// A decode call in either reading: a header that is pending is not judged again.
+pub fn decode_call(stream: &[u8], at: usize, known: Format, pending: usize, strict: bool) -> Reading {
     let header = match pending {
-        0 => by_01(stream, at, known),
+        0 => attempt(stream, at, known, strict),
         size => Reading::unsought(0, at, size),
     };
     let left = Fields { stream, at: header.at }.left();

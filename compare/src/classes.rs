@@ -143,7 +143,8 @@ fn zeros(s: &mut Seeded) -> Vec<u8> {
     run
 }
 
-fn header(f: Format, extension: usize, s: &mut Seeded) -> (Vec<u8>, usize) {
+/// A header of that format, some with a check word, and the bytes of its frame's data.
+pub fn header(f: Format, extension: usize, s: &mut Seeded) -> (Vec<u8>, usize) {
     let (check, padding) = (s.below(4) == 0, s.below(2));
     let rates = (f.bitrate_index + 1) << 4 | f.samplerate_index << 2 | padding << 1 | s.below(2);
     let mode = f.mode << 6 | extension << 4 | s.below(16);

@@ -3,7 +3,7 @@
 
 use crate::classes::{payload, Clips, STREAMS};
 use crate::files::files;
-use crate::firmware::{Decoder, MEMORY, OUTPUT, STREAM};
+use crate::firmware::{count, Decoder, MEMORY, OUTPUT, STREAM};
 use crate::loud::{self, SHAPES};
 use crate::saved;
 use crate::seeded::Seeded;
@@ -96,7 +96,8 @@ fn faint(s: &mut Seeded) -> Vec<f32> {
         .collect()
 }
 
-/// A saved state over any memory, in range or with one field out of it, some with any bits where nothing is read.
+/// A saved state with any choices over any memory, in range or with one field out of it, some with any bits where nothing is
+/// read.
 fn taken_up(seed: u64, clips: &Clips) -> Job {
     let s = &mut Seeded::new(seed);
     let length = s.one_of(&[200, 2_000, 4_000]);
@@ -108,6 +109,7 @@ fn taken_up(seed: u64, clips: &Clips) -> Job {
         _ => payload(s, length),
     };
     let mut state = saved::in_range(s, stream.len());
+    state.counts[count::CHOICES] = s.below(32) as u32;
     if s.below(4) == 0 {
         let (_, spoil) = saved::SPOILT[s.below(saved::SPOILT.len())];
         spoil(s, &mut state);

@@ -1,15 +1,18 @@
-//! Whole decoders on classes of streams: what is called on them, and in which order. `both` compares each call.
+//! Whole decoders on classes of streams: what is called on them, and in which order, in the tolerant reading and in the
+//! strict one. `both` compares each call.
 
 use crate::both::{number_of, state_of, Both, GUARD};
-use crate::by_01::by_01;
+use crate::by_01::attempt;
 use crate::classes::{payload, Clips, STREAMS};
 use crate::files::files;
-use crate::firmware::{place, Decoder, COUNTS, MEMORY, OUTPUT, PLACES, STREAM};
+use crate::firmware::{count, place, Decoder, COUNTS, MEMORY, OUTPUT, PLACES, STREAM};
 use crate::junk;
+use crate::pairs;
 use crate::saved::{self, fresh, written};
 use crate::seeded::Seeded;
-use crate::source::NO_FORMAT;
-use crate::tally::Tally;
+use crate::source::{Format, NO_FORMAT};
+use crate::strict::{self, STRICT};
+use crate::tally::{hex, Tally};
 use std::time::Instant;
 
 /// Calls both until neither moves any more, and twice again, with the question about the format at seeded moments, and with
@@ -28,19 +31,34 @@ fn to_the_end(both: &mut Both, stream: &[u8], s: &mut Seeded) {
     }
 }
 
+/// Choices of the two readings.
+const READINGS: [u32; 2] = [0, STRICT];
+
+/// A stream from its opening to its end, in both readings.
 fn whole(tally: &mut Tally, class: &str, name: &str, stream: &[u8], s: &mut Seeded) {
-    chosen(tally, class, name, stream, s, 0);
+    for choices in READINGS {
+        chosen(tally, class, name, stream, s, choices);
+    }
+}
+
+/// The class, under which a stream is counted, by the reading.
+fn class_of(class: &str, choices: u32) -> String {
+    match strict::chosen(choices) {
+        true => format!("strict: {class}"),
+        false => class.to_string(),
+    }
 }
 
 fn chosen(tally: &mut Tally, class: &str, name: &str, stream: &[u8], s: &mut Seeded, choices: u32) {
-    tally.stream(class);
+    let class = class_of(class, choices);
+    tally.stream(&class);
     let name = format!("{class}, {name}");
     let beyond = s.one_of(&[0, 1, 5, 64]);
     to_the_end(&mut Both::open(tally, &name, stream, beyond, choices), stream, s);
 }
 
 /// Another stream is lent between calls, from where the decoder stands.
-fn changing(tally: &mut Tally, name: &str, clips: &Clips, s: &mut Seeded) {
+fn changing(tally: &mut Tally, name: &str, clips: &Clips, s: &mut Seeded, choices: u32) {
     let streams: Vec<Vec<u8>> = (0..2 + s.below(3))
         .map(|_| {
             let (_, make) = STREAMS[s.below(STREAMS.len())];
@@ -48,7 +66,7 @@ fn changing(tally: &mut Tally, name: &str, clips: &Clips, s: &mut Seeded) {
         })
         .collect();
     let mut stream = &streams[0];
-    let both = &mut Both::open(tally, name, stream, 5, 0);
+    let both = &mut Both::open(tally, name, stream, 5, choices);
     for _ in 0..3 + s.below(10) {
         stream = &streams[s.below(streams.len())];
         both.lend(stream);
@@ -70,10 +88,12 @@ fn under_a_state(clips: &Clips, s: &mut Seeded) -> Vec<u8> {
     make(s, clips)
 }
 
-/// A state that no opening need have made, and the same with any bits where nothing is read: both go on as the Rust does.
-fn resumed(tally: &mut Tally, name: &str, clips: &Clips, s: &mut Seeded) {
+/// A state that no opening need have made, and the same with any bits where nothing is read: both go on as the Rust does. In
+/// the strict reading too it may know a pair of bit rate and mode that the standard has not.
+fn resumed(tally: &mut Tally, name: &str, clips: &Clips, s: &mut Seeded, choices: u32) {
     let stream = under_a_state(clips, s);
-    let state = saved::in_range(s, stream.len());
+    let mut state = saved::in_range(s, stream.len());
+    state.counts[count::CHOICES] = choices;
     let mut memory = saved::memory(s);
     memory.resize(MEMORY + s.one_of(&[0, 5]), GUARD);
     go_on(Both::resume(tally, name, &stream, state, memory.clone()), &stream, s);
@@ -92,9 +112,10 @@ fn go_on(mut both: Both, stream: &[u8], s: &mut Seeded) {
 }
 
 /// One field out of range: every call gives 10 and leaves all.
-fn spoilt(tally: &mut Tally, name: &str, clips: &Clips, s: &mut Seeded) {
+fn spoilt(tally: &mut Tally, name: &str, clips: &Clips, s: &mut Seeded, choices: u32) {
     let stream = under_a_state(clips, s);
     let mut d = saved::in_range(s, stream.len());
+    d.counts[count::CHOICES] = choices;
     let (field, spoil) = saved::SPOILT[s.below(saved::SPOILT.len())];
     spoil(s, &mut d);
     let memory = saved::memory(s);
@@ -125,17 +146,17 @@ fn bits(values: &[f32]) -> Vec<u32> {
 }
 
 /// Too little memory at the opening, too little memory or output among the calls: 9, and all is left.
-fn little_room(tally: &mut Tally, name: &str, clips: &Clips, s: &mut Seeded) {
+fn little_room(tally: &mut Tally, name: &str, clips: &Clips, s: &mut Seeded, choices: u32) {
     let (_, make) = STREAMS[s.below(STREAMS.len())];
     let stream = make(s, clips);
     let less = |s: &mut Seeded, whole: usize| s.one_of(&[0, 1, whole / 2, whole - 1]);
     let memory = saved::memory(s);
     let mut lent = memory.clone();
-    let (d, opened) = Decoder::new(&stream, &mut lent[..less(s, MEMORY)], 0);
+    let (d, opened) = Decoder::new(&stream, &mut lent[..less(s, MEMORY)], choices);
     tally.same(
         "listed: opening 9",
         (number_of(opened), state_of(&d), bits(&lent) == bits(&memory)),
-        (9, state_of(&fresh(0)), true),
+        (9, state_of(&fresh(choices)), true),
         || name.to_string(),
     );
     let both = &mut Both::resume(tally, name, &stream, d, lent);
@@ -149,15 +170,18 @@ fn little_room(tally: &mut Tally, name: &str, clips: &Clips, s: &mut Seeded) {
     }
 }
 
+/// A way to call: with the tally, what is said of a difference, the clips, and the choices.
+type Called = fn(&mut Tally, &str, &Clips, &mut Seeded, u32);
+
 /// How a seed's stream is called: one class of each kind in turn.
-const CALLED: [(&str, fn(&mut Tally, &str, &Clips, &mut Seeded)); 4] = [
+const CALLED: [(&str, Called); 4] = [
     ("stream changed between calls", changing),
     ("saved state in range", resumed),
     ("saved state with a field out of range", spoilt),
     ("little room", little_room),
 ];
 
-/// The stream of one seed. The classes come in turn.
+/// The stream of one seed, in both readings. The classes come in turn.
 fn seeded(tally: &mut Tally, seed: u64, clips: &Clips) {
     let s = &mut Seeded::new(seed);
     let turn = (seed % (STREAMS.len() + CALLED.len()) as u64) as usize;
@@ -166,11 +190,15 @@ fn seeded(tally: &mut Tally, seed: u64, clips: &Clips) {
         return whole(tally, class, &format!("seed {seed}"), &stream, s);
     }
     let (class, call) = CALLED[turn - STREAMS.len()];
-    tally.stream(class);
-    call(tally, &format!("{class}, seed {seed}"), clips, s);
+    for choices in READINGS {
+        let class = class_of(class, choices);
+        tally.stream(&class);
+        call(tally, &format!("{class}, seed {seed}"), clips, s, choices);
+    }
 }
 
-/// No choice has an effect yet: with each of them, and any bits above, a seeded stream gives what the Rust gives.
+/// Of the five choices the first has an effect, the strict reading: with each of the others, and any bits above, a seeded
+/// stream gives what it gives without.
 fn every_choice(tally: &mut Tally, count: u64) {
     let clips = Clips::load();
     for seed in 0..count {
@@ -214,8 +242,28 @@ fn every_junk(tally: &mut Tally) {
         let s = &mut Seeded::new(junk.stream.len() as u64);
         whole(tally, "junk of every length", &junk.name, &junk.stream, s);
         if let Some(passed) = junk.passed {
-            let told = by_01(&junk.stream, 8 * junk.at, NO_FORMAT).skipped;
-            tally.same("junk by its length", told, passed, || junk.name.clone());
+            let told = [false, true].map(|strict| attempt(&junk.stream, 8 * junk.at, NO_FORMAT, strict).skipped);
+            tally.same("junk by its length", told, [passed; 2], || junk.name.clone());
+        }
+    }
+}
+
+/// Every two of the 56 pairs of bit rate and mode. A frame of the first stands before and behind one of the second: opened; and
+/// taken up from a state, made by hand, that knows the first, with its frame pending or not.
+fn every_two_pairs(tally: &mut Tally) {
+    for number in 0..pairs::COUNT * pairs::COUNT {
+        let s = &mut Seeded::new(number as u64);
+        let pairs::Two { stream, states } = pairs::two(number, s);
+        let name = format!("two pairs, number {number}");
+        whole(tally, "every two pairs", &name, &stream, s);
+        for choices in READINGS {
+            for mut state in states {
+                state.counts[count::CHOICES] = choices;
+                tally.stream(&class_of("every two pairs, saved", choices));
+                let memory = saved::memory(s);
+                let both = &mut Both::resume(tally, &name, &stream, state, memory);
+                to_the_end(both, &stream, s);
+            }
         }
     }
 }
@@ -294,21 +342,24 @@ fn too_long(tally: &mut Tally, frame: Vec<u8>) {
 }
 
 /// An opening past the wrapper, over any bits: its number, and the places that it leaves.
-fn opened_over(stream: &[u8], room: usize) -> (u32, [u64; PLACES]) {
+fn opened_over(stream: &[u8], room: usize, choices: u32) -> (u32, [u64; PLACES]) {
     use crate::firmware::boundary::tag_open;
     let (mut places, mut counts, mut time) = ([7; PLACES], [7; COUNTS], [7.0]);
     let mut memory = [GUARD; MEMORY];
     let (data, length, ring) = (stream.as_ptr(), stream.len() as u64, memory.as_mut_ptr());
-    let number = unsafe { tag_open(data, length, ring, room as u64, &mut places, &mut counts, &mut time, 0) };
+    let room = room as u64;
+    let number = unsafe { tag_open(data, length, ring, room, &mut places, &mut counts, &mut time, choices) };
     (number, places)
 }
 
-/// Both calls that leave numbers beside their answer, past the wrapper, from a state that knows a header: the answers of
-/// decode and format, each with what stands beside it and with what was passed over.
-fn beside(stream: &[u8], room: usize, ring: u64) -> ((u32, u64, u64, u64), (u32, [u32; 3], u64)) {
+/// The answers of decode and format, each with what stands beside it and with what was passed over.
+type Beside = ((u32, u64, u64, u64), (u32, [u32; 3], u64));
+
+/// Both calls that leave numbers beside their answer, past the wrapper, format before decode, from a state.
+fn beside(stream: &[u8], room: usize, state: Decoder) -> Beside {
     use crate::firmware::boundary::{tag_decode, tag_format};
-    let (mut places, mut counts, mut time) = ([0; PLACES], [0; COUNTS], [0.0]);
-    (places[place::RING], places[place::SKIPPED]) = (ring, 7);
+    let (mut places, mut counts, mut time) = (state.places, state.counts, state.time);
+    places[place::SKIPPED] = 7;
     let (mut memory, mut output) = ([GUARD; MEMORY], [GUARD; OUTPUT]);
     let (mut rate, mut kbps, mut mode, mut start, mut bits) = ([7], [7], [7], [-1.0], [7]);
     let (data, length, room) = (stream.as_ptr(), stream.len() as u64, room as u64);
@@ -339,6 +390,43 @@ fn beside(stream: &[u8], room: usize, ring: u64) -> ((u32, u64, u64, u64), (u32,
     )
 }
 
+/// A state that knows a header, with that ring position.
+fn knowing(ring: u64) -> Decoder {
+    let first = Format {
+        samplerate_index: 0,
+        ..NO_FORMAT
+    };
+    let mut state = saved::knowing(first, 0, 0);
+    state.places[place::RING] = ring;
+    state
+}
+
+/// Beside a 13 too there are zeros. The header of 32 kbps in stereo comes three times, the second and third behind junk.
+fn beside_13(tally: &mut Tally) {
+    tally.stream("strict: past the wrapper");
+    let stream = [0xFF, 0xFD, 0x10, 0x00, 0x31, 0x31, 0xFF, 0xFD, 0x10, 0x00, 0x31, 0, 0];
+    let (number, places) = opened_over(&stream, MEMORY, STRICT);
+    let opened = Decoder {
+        places,
+        ..fresh(STRICT)
+    };
+    let mut expected = fresh(STRICT);
+    expected.places[place::POSITION] = 26;
+    tally.same(
+        "strict: opening over any bits 13",
+        (number, state_of(&opened)),
+        (13, state_of(&expected)),
+        || hex(&stream),
+    );
+    let again = [&stream[..], &stream[..]].concat();
+    tally.same(
+        "strict: zeros beside 13",
+        beside(&again, MEMORY, opened),
+        ((13, 0, 0, 3), (13, [0; 3], 2)),
+        || hex(&again),
+    );
+}
+
 /// Where two refusals hold, 01's order decides: 8, 9, 10. Beside each there are zeros. The format is told whatever is lent
 /// to decode, but not on a stream too long.
 fn order(tally: &mut Tally) {
@@ -356,7 +444,7 @@ fn order(tally: &mut Tally) {
     ] {
         tally.same(
             "listed: order, and zeros beside",
-            beside(&long[..length], room, ring),
+            beside(&long[..length], room, knowing(ring)),
             ((number, 0, 0, 0), told),
             || format!("{length} bytes, room {room}, ring {ring}"),
         );
@@ -369,7 +457,7 @@ fn order(tally: &mut Tally) {
     ] {
         tally.same(
             "listed: opening over any bits",
-            opened_over(&long[..length], room),
+            opened_over(&long[..length], room, 0),
             (number, fresh(0).places),
             || format!("{length} bytes, room {room}"),
         );
@@ -407,8 +495,10 @@ pub fn compare(tally: &mut Tally, words: &[String]) {
             every_header(tally);
             every_cut(tally);
             every_junk(tally);
+            every_two_pairs(tally);
             longest(tally);
             order(tally);
+            beside_13(tally);
             let count = number(0).unwrap_or(300_000);
             every_choice(tally, count / 32);
             run(tally, 0, count);

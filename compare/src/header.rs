@@ -1,11 +1,17 @@
 //! One attempt at a header: number, position, format, data size and the byte of its FF against the Rust's `decode_header`. The
 //! Rust gives a size or 0; which of 01's numbers a 0 stands for is told by `by_01`, whose position and size must be the
 //! Rust's, and whose FF must stand where the Rust read on behind it.
+//!
+//! Then the same in the strict reading (02, E3), from a state made by hand, by each of the tag's calls that make an attempt:
+//! number and state. A header that `by_01` refuses with 13 the Rust is made to refuse as it refuses one with 6.
 
-use crate::by_01::by_01;
+use crate::by_01::{attempt, by_01, decode_call, Reading};
+use crate::firmware::{count, place, Decoder, Refusal, MEMORY, OUTPUT};
+use crate::saved::knowing;
 use crate::seeded::{every, header, Seeded, CLASSES};
 use crate::source::traced::audio::Audio;
 use crate::source::{Format, NO_FORMAT};
+use crate::strict::STRICT;
 use crate::tag;
 use crate::tally::{hex, Tally};
 
@@ -27,10 +33,7 @@ impl Sides<'_> {
         let (after, format) = (self.source.at(), self.source.format());
         let [samplerate, bitrate, mode, bound] = as_numbers(format);
         let expected = by_01(stream, at, known);
-        let sync = match expected.number {
-            1 => at.div_ceil(8),
-            _ => self.source.sync().unwrap_or(stream.len()),
-        };
+        let sync = self.sync(expected.number, stream, at);
         let say = || format!("{class}, seed {seed}, at bit {at}, known {known:?}, {}", hex(stream));
         self.tally.same(
             &format!("number {}", expected.number),
@@ -51,17 +54,90 @@ impl Sides<'_> {
         (after, format)
     }
 
-    /// Attempts one after the other, as long as they move on, to at most five.
+    /// The byte of the FF behind which the Rust read on.
+    fn sync(&self, number: u32, stream: &[u8], at: usize) -> usize {
+        match number {
+            1 => at.div_ceil(8),
+            _ => self.source.sync().unwrap_or(stream.len()),
+        }
+    }
+
+    /// The Rust's attempt in the strict reading: the data size, 0 where it is refused.
+    fn strict_attempt(&mut self, told: Reading, stream: &[u8], at: usize, known: Format) -> usize {
+        self.source.stand(stream, at, known);
+        if told.number == 13 {
+            self.source.refuse_behind_mode();
+            return 0;
+        }
+        self.source.attempt()
+    }
+
+    /// The same in the strict reading, with any of the other choices: they have no effect.
+    fn strict(&mut self, class: &str, seed: u64, stream: &[u8], at: usize, known: Format) -> (usize, Format) {
+        let told = attempt(stream, at, known, true);
+        let size = self.strict_attempt(told, stream, at, known);
+        let (after, format) = (self.source.at(), self.source.format());
+        let choices = STRICT | (seed as u32 % 16) << 1;
+        let before = saved(known, at, 0, 0, choices);
+        let left = saved(format, after, size, told.skipped, choices);
+        let number = decode_call(stream, at, known, 0, true).number;
+        let mut expected = vec![("decode", number, left)];
+        match known {
+            NO_FORMAT => expected.push(("format", told.number, left)),
+            _ => expected.push(("format known", 0, before)),
+        }
+        if (at, known) == (0, NO_FORMAT) {
+            expected.push(("open", told.number, left));
+        }
+        let sync = self.sync(told.number, stream, at);
+        for (call, number, state) in expected {
+            let say = || format!("{class}, seed {seed}, at bit {at}, known {known:?}, {}", hex(stream));
+            self.tally.same(
+                &format!("strict: {call} {number}"),
+                (called(call, stream, before), [told.at, told.size, told.sync]),
+                ((number, state), [after, size, sync]),
+                say,
+            );
+        }
+        (after, format)
+    }
+
+    /// Attempts one after the other, as long as they move on, to at most five; in one reading, then in the other.
     fn attempts(&mut self, class: &str, seed: u64, stream: &[u8], at: usize, known: Format) {
         self.tally.stream(class);
-        let (mut at, mut known) = (at, known);
-        for _ in 0..5 {
-            let next = self.attempt(class, seed, stream, at, known);
-            if next == (at, known) {
-                return;
+        for reading in [Self::attempt, Self::strict] {
+            let (mut at, mut known) = (at, known);
+            for _ in 0..5 {
+                let next = reading(self, class, seed, stream, at, known);
+                if next == (at, known) {
+                    break;
+                }
+                (at, known) = next;
             }
-            (at, known) = next;
         }
+    }
+}
+
+/// A state that knows a format, or none, as a call leaves it that passed over so many bytes.
+fn saved(known: Format, at: usize, pending: usize, skipped: usize, choices: u32) -> Decoder {
+    let mut d = knowing(known, at, pending);
+    d.counts[count::CHOICES] = choices;
+    d.places[place::SKIPPED] = skipped as u64;
+    d
+}
+
+/// One of the tag's calls from a state: its number, and the state that it leaves. None of the streams here has a frame.
+fn called(call: &str, stream: &[u8], before: Decoder) -> (u32, Decoder) {
+    let mut d = before;
+    let mut memory = [0.0; MEMORY];
+    let number = |refusal: Option<Refusal>| refusal.map_or(0, |refusal| refusal.0);
+    match call {
+        "open" => {
+            let (d, opened) = Decoder::new(stream, &mut memory, before.counts[count::CHOICES]);
+            (number(opened.err()), d)
+        }
+        "decode" => (number(d.decode(stream, &mut memory, &mut [0.0; OUTPUT]).err()), d),
+        _ => (number(d.format(stream).err()), d),
     }
 }
 
@@ -135,13 +211,9 @@ fn every_header(sides: &mut Sides) {
         for kept in 0..6 {
             let mut cut = vec![0; 6 - kept];
             cut.extend(&whole[..kept]);
-            sides.attempts(
-                "every header, cut off, behind zeros",
-                number,
-                &cut,
-                0,
-                s.one_of(&[NO_FORMAT, own, other]),
-            );
+            for known in [NO_FORMAT, own, other] {
+                sides.attempts("every header, cut off, behind zeros", number, &cut, 0, known);
+            }
         }
         let kept = s.below(6);
         sides.attempts(
@@ -237,7 +309,9 @@ pub fn compare(tally: &mut Tally, count: usize) {
     println!(
         "header: attempts one after the other on every header, every truncation, every short stream over 5 bytes,"
     );
-    println!("and {count} seeded streams, with and without an earlier format");
+    println!(
+        "and {count} seeded streams, with and without an earlier format, in the tolerant reading and in the strict one"
+    );
     let mut sides = Sides {
         tally,
         source: Audio::new(Vec::new()),

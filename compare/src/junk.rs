@@ -35,13 +35,14 @@ type Kind = (&'static str, bool, &'static [u8], usize);
 /// 32 kbps, 44.1 kHz, mono: 104 bytes.
 const FRAME: Kind = ("accepted", true, &[0xFF, 0xFD, 0x10, 0xC0], 100);
 
-const KINDS: [Kind; 15] = [
+const KINDS: [Kind; 16] = [
     FRAME,
     ("with a check word", true, &[0xFF, 0xFC, 0x10, 0xC0, 0x12, 0x34], 98),
     ("data cut off", true, &[0xFF, 0xFD, 0x10, 0xC0], 99),
     ("refused with 4", true, &[0xFF, 0xFD, 0xF0, 0xC0], 100),
     ("refused with 5", true, &[0xFF, 0xFD, 0x1C, 0xC0], 100),
     ("refused with 6 behind a frame", true, &[0xFF, 0xFD, 0x20, 0xC0], 152),
+    ("32 kbps in stereo", true, &[0xFF, 0xFD, 0x10, 0x00], 100),
     ("cut after 2 bytes", true, &[0xFF, 0xFC], 0),
     ("cut after 3 bytes", true, &[0xFF, 0xFD, 0x10], 0),
     ("cut after 4 bytes", true, &[0xFF, 0xFC, 0x10, 0xC0], 0),

@@ -37,7 +37,7 @@ mod decode;
     layer = "cortex"
 ))]
 mod files;
-#[cfg(any(layer = "decode", layer = "bench", layer = "cortex"))]
+#[cfg(any(layer = "header", layer = "decode", layer = "bench", layer = "cortex"))]
 #[path = "../../firmware/tag.rs"]
 mod firmware;
 #[cfg(any(layer = "codes", layer = "sound", layer = "decode", layer = "wav", layer = "cortex"))]
@@ -50,17 +50,27 @@ mod header;
 mod junk;
 #[cfg(any(layer = "wav", layer = "cortex"))]
 mod loud;
+#[cfg(layer = "decode")]
+mod pairs;
 #[cfg(layer = "reader")]
 mod reader;
 #[cfg(any(layer = "bench", layer = "decode", layer = "wav"))]
 mod riff;
-#[cfg(any(layer = "decode", layer = "cortex"))]
+#[cfg(any(layer = "header", layer = "decode", layer = "cortex"))]
 mod saved;
 #[cfg(not(layer = "answers"))]
 mod seeded;
 #[cfg(layer = "sound")]
 mod sound;
 mod source;
+#[cfg(any(
+    layer = "answers",
+    layer = "reader",
+    layer = "header",
+    layer = "decode",
+    layer = "wav"
+))]
+mod strict;
 #[cfg(layer = "wav")]
 mod summary;
 #[cfg(not(any(layer = "answers", layer = "decode", layer = "wav", layer = "cortex")))]
@@ -74,9 +84,12 @@ mod wave;
 
 #[cfg(layer = "answers")]
 fn main() {
-    match std::env::args().nth(1) {
-        Some(folder) => answers::print(folder.as_ref()),
-        None => answers::across(),
+    let words: Vec<String> = std::env::args().skip(1).collect();
+    match &words.iter().map(String::as_str).collect::<Vec<_>>()[..] {
+        [] => answers::across(),
+        [folder] => answers::print(folder.as_ref(), false),
+        [folder, "strict"] => answers::print(folder.as_ref(), true),
+        _ => panic!("FOLDER, FOLDER strict, or nothing"),
     }
 }
 

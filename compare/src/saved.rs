@@ -1,9 +1,10 @@
 //! Saved states: every field drawn within 01's ranges, the same with one field out of its range, and both with any bits
 //! where nothing is read.
-#![cfg_attr(layer = "cortex", allow(dead_code))]
+#![cfg_attr(any(layer = "header", layer = "cortex"), allow(dead_code))]
 
 use crate::firmware::{count, place, Decoder, COUNTS, MEMORY, PLACES};
 use crate::seeded::Seeded;
+use crate::source::Format;
 
 /// 01's farthest position, in bits.
 pub const FARTHEST: usize = 134_217_736;
@@ -88,6 +89,12 @@ pub fn in_range(s: &mut Seeded, length: usize) -> Decoder {
     let pending = if known { pending } else { 0 };
     let places = [at, code, s.below(14), bound, pending, 64 * s.below(16)];
     widened(places, [mode as u32, frames], time(frames, code as u64))
+}
+
+/// A state that knows a format and has decoded nothing, at a bit, with a frame of so many bytes pending, or 0.
+pub fn knowing(f: Format, at: usize, pending: usize) -> Decoder {
+    let places = [at, f.samplerate_index, f.bitrate_index, f.bound, pending, 0];
+    widened(places, [f.mode as u32, 0], 0.0)
 }
 
 /// A memory of numbers, of zeros of both signs, of sizes far apart, or of anything that an f32 can be.

@@ -1,5 +1,6 @@
 // A clip's bytes and calls: the map's legend, one call that is chosen, and all of them.
 import { $, chip, fill, make } from "./dom.js";
+import { goesOn } from "./calls.js";
 import { REASONS, counted, grouped, headerWords, hexOf, seconds, times, why } from "./words.js";
 
 const ROWS = 100, RUNS = 40, HEX = 48; // rows of a run, runs, and bytes that are shown at once
@@ -7,7 +8,7 @@ let clip, calls, row, tell;
 
 export function showBytes(next, told) {
     [clip, calls, tell] = [next, next.calls, told];
-    const refusal = (number) => number > 1 && number < 7, first = calls.number.findIndex(refusal);
+    const first = calls.number.findIndex((number) => number > 1 && goesOn(number));
     $("map").setAttribute("aria-label", `A map of ${counted(clip.stream.length, "byte")}. The list below says it in words.`);
     showLegend();
     fill($("calls"));
@@ -36,7 +37,7 @@ function callWords(at, framesBefore) {
     const number = calls.number[at];
     const data = () => `${counted(calls.bits[at], "bit")} from byte ${grouped(calls.data(at))} on`;
     if (number === 0) return `plays at ${seconds(framesBefore, calls.format.rate)}; ${data()}`;
-    return number >= 3 && number <= 6 ? `${REASONS[number]}: the header says ${why(clip, at)}` : REASONS[number];
+    return number > 2 && goesOn(number) ? `${REASONS[number]}: the header says ${why(clip, at)}` : REASONS[number];
 }
 
 // A button that makes way for what comes next, and hands it the focus.

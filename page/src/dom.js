@@ -19,7 +19,7 @@ export const options = (entries) => Object.entries(entries).map(([key, { name }]
 
 // A call's answer as a mark: a sign, a word and the number, so that no colour is needed to tell it.
 export const signOf = (number) => (number === 0 ? "●" : goesOn(number) ? "▲" : "■");
-export const colourOf = (number) => (number === 0 ? "sound" : number === 1 ? "end-1" : `refused-${Math.min(number, 8)}`);
+export const colourOf = (number) => (number === 0 ? "sound" : number === 1 ? "end-1" : `refused-${REASONS[number] ? number : 8}`);
 
 // A sign for the eye alone: a screen reader says the word behind it.
 export const sign = (text) => make("span", { ariaHidden: "true" }, `${text} `);

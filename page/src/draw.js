@@ -58,7 +58,7 @@ export function drawWave({ wave, format: { frames } }, marks, frame) {
 function kindColour(kind) {
     if (kind >= KINDS.refused) return colour(colourOf(kind - KINDS.refused));
     const plain = Object.keys(KINDS).find((name) => KINDS[name] === kind);
-    return colour(plain ?? `pale-${Math.min(8, kind - KINDS.behind)}`);
+    return colour(plain ?? `pale-${kind - KINDS.behind}`);
 }
 
 // The columns as a picture of one line, drawn as wide as the page is. Refusals, where they are few, are drawn once more, so

@@ -75,7 +75,7 @@ class ByteMap {
         } else if (header >= 0) {
             bytes.refused[number] = (bytes.refused[number] ?? 0) + this.paint(header, end, KINDS.refused + number);
         }
-        if (number === 0 || number === 6) {
+        if ([0, 6, 13].includes(number)) {
             const last = header + frameBytes(fields(calls.stream, header));
             bytes.over += end > last;
             this.frame(header, Math.max(end, last));

@@ -16,9 +16,8 @@ const pieces = (place) => (book[place] ?? []).map((key) => option(key, book.piec
 
 // The answers to choose from.
 function guesses(frames) {
-    const words = frames ? [0, 1, 2, 3, 4, 5, 6, 7, 8].map((number) => counted(number, "frame")) : REASONS.map((reason, number) => `${number}: ${reason}`);
-    const choices = words.map((text, value) => make("label", {}, make("input", { type: "radio", name: "guess", value }), make("span", {}, text)));
-    return frames ? choices : choices.slice(1);
+    const values = frames ? [0, 1, 2, 3, 4, 5, 6, 7, 8] : [1, 2, 3, 4, 5, 6, 7], words = (value) => (frames ? counted(value, "frame") : `${value}: ${REASONS[value]}`);
+    return values.map((value) => make("label", {}, make("input", { type: "radio", name: "guess", value }), make("span", {}, words(value))));
 }
 
 // The stream's first bytes, or those around the bit that was flipped last.

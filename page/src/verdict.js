@@ -10,6 +10,8 @@ const ADVICE = {
     5: "A header in it has a sample rate that is none (5). Tell the maker of this clip.",
     6: "Part of it has another format than its beginning, and is not spoken (6). Have it made again in one format, and each clip as a file of its own.",
     7: "Its last frame is cut off, and is not spoken (7). Have the file sent again.",
+    13: "The maker's tool wrote a bit rate that the standard does not have in this mode (13), and some players refuse it. " +
+        "In mono ask for 192 kbps or less. In stereo ask for 64 kbps, or for 96 and more.",
 };
 
 // What to do where no number says it, but the places of headers do.
@@ -92,7 +94,8 @@ const FILES = [
 ];
 
 // What a file is that has no frame, or hardly one.
-function fileWords({ stream, tally, format }) {
+function fileWords({ stream, tally, format, bytes }) {
+    if (tally[13] && bytes.next) return ADVICE[13];
     if (tally[7] && !format.frames) return "A header was read, but the frame behind it is cut off (7). Have the file sent again.";
     if (tally[4] && second(0xfc)(stream)) return "This looks like Layer II in free format, or with a bit rate that is none (4). Ask the maker for a clip with a bit rate.";
     const [, words] = FILES.find(([is]) => is(stream));

@@ -3,10 +3,10 @@ import { fields } from "./header.js";
 import { PAIRS } from "./tag.js";
 
 // The words of crates/listing/specs/Words, which the programs print; compare/page holds these to them.
-export const REASONS = [
-    "a frame", "no header can follow", "no sync found", "another version or layer", "a bit rate that is none", "a sample rate that is none",
-    "another bit rate, sample rate or mode than the first", "the last frame is cut off",
-];
+export const REASONS = {
+    0: "a frame", 1: "no header can follow", 2: "no sync found", 3: "another version or layer", 4: "a bit rate that is none", 5: "a sample rate that is none",
+    6: "another bit rate, sample rate or mode than the first", 7: "the last frame is cut off", 13: "a bit rate that the standard does not have in this mode",
+};
 export const MODES = ["stereo", "joint stereo", "two channels", "mono"];
 const VERSIONS = ["MPEG-2.5", "a version that is none", "MPEG-2", "MPEG-1"];
 const LAYERS = ["no layer", "Layer III (MP3)", "Layer II", "Layer I"];
@@ -37,6 +37,7 @@ export function why({ calls, stream, format }, row) {
     const number = calls.number[row], found = fields(stream, calls.header(row));
     if (number === 3) return headerWords(stream, calls.header(row));
     if (number === 4 || number === 5) return VALUES[number === 4 ? "kbps" : "rate"](found) + missing(found);
+    if (number === 13) return `${VALUES.kbps(found)} in ${VALUES.mode(found)}, which the standard does not have${missing(found)}`;
     const parted = Object.keys(VALUES).filter((name) => found[name] !== format[name]), told = (from) => parted.map((name) => VALUES[name](from)).join(", ");
     return `${told(found)}${missing(found)}, the clip began with ${parted.join() === "kbps" ? format.kbps : told(format)}`;
 }

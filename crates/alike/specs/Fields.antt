@@ -18,7 +18,7 @@ use Rattle.tables.specs.Standard.{kbpsOf, sblimit}
 use Rattle.header.specs.Header.{sizeOf}
 use Rattle.header.specs.Attempts.{version, layer, protection, bitrate, samplerate, padding, mode, extension, flags, afterCheck, formatBy, dataSize as sizeBy}
 use Rattle.header.specs.declared.Format.{Format}
-use Rattle.header.specs.declared.Reading.{Reading}
+use Rattle.readings.specs.declared.Reading.{Reading}
 use Rattle.side.specs.Side.{cutOf}
 use Rattle.standard.specs.Header.{HeaderFields, syncword, id, layer as layerBits, protectionBit, bitrateIndex, samplingFrequency, paddingBit, modeBits, modeExtension, bound, allocationTable, frameBytes, headerBytes, dataSize, dataBit}
 use Rattle.alike.specs.Bound.{Bounds, the-standards-bound}
@@ -98,7 +98,7 @@ module _ (s : List ℕ) (byte : ℕ) (short : length s ≤ longestStream) where
     padding-is : padding s (afterSync byte) ≡ bitsAt s byte 22 1
     padding-is = ap (λ (z : Field). fieldOf s (z .next) 1) samplerate-is ∙ field 22 1 (omega arith) (omega arith)
 
-    mode-is : mode s (afterSync byte) ≡ bitsAt s byte 24 2
+    pub mode-is : mode s (afterSync byte) ≡ bitsAt s byte 24 2
     mode-is =
         ap (λ (z : Field). fieldOf s (fieldOf s (z .next) 1 .next) 2) padding-is
         ∙ ap (λ (z : Field). fieldOf s (z .next) 2) (field 23 1 (omega arith) (omega arith))

@@ -1,10 +1,10 @@
 -- The port's header and the standard's, both ways. Where a header of ISO/IEC 11172-3 stands at a byte that an attempt reaches, the port
--- accepts it, with the standard's fields, bound and frame size. And a header that the port accepts, all of its bits being there, is one of
--- the standard's. Either way it stands at the byte that the attempt tells, so up to there the bytes were passed over (02, E2).
+-- accepts it, with the standard's fields, bound and frame size; in the strict reading (02, E3) if the standard has its pair of bit rate and
+-- mode, and else refuses it with 13. And a header that the port accepts, all of its bits being there, is one of the standard's. Either way it stands at the byte that the attempt tells, so up to there the bytes were passed over (02, E2).
 -- Demand 2: "Header .. proved against a definition written from ISO/IEC 11172-3 Layer II". Assumes nothing.
 use Prim.Native.Nat.{ℕ, _+_, _-_, _*_, _/_, _%_, _≤_, _<_}
 use mathlib.Core.Path.{_≡_, refl, sym, ap, subst, _∙_}
-use mathlib.Core.Bool.{true}
+use mathlib.Core.Bool.{Bool, true, false}
 use mathlib.Core.List.{List, [], _∷_}
 use native.Mathlib.Decide.{ℕ-discrete}
 use native.Mathlib.Omega.{arith}
@@ -17,21 +17,24 @@ use Rattle.ground.specs.Tests.{by-test}
 use Rattle.ground.specs.Upto.{and-left, and-right}
 use Rattle.ground.specs.Entries.{every}
 use Rattle.buffer.specs.Bits.{longestStream, farthestBit, bitsValue, otherAt, pairAt, pastOf}
-use Rattle.buffer.specs.Calls.{readerAt, byteAt, fieldOf}
+use Rattle.buffer.specs.Calls.{readerAt, byteAt, left, fieldOf}
 use Rattle.buffer.specs.Laws.{split, bits-below, in-byte, byte-at, field-whole, field-moves}
 use Rattle.buffer.specs.PairLaws.{pair-ones}
 use Rattle.buffer.specs.declared.BytePos.{BytePos}
 use Rattle.buffer.specs.declared.Reader.{Reader}
 use Rattle.buffer.specs.declared.Field.{Field}
-use Rattle.header.specs.Header.{headerOf}
+use Rattle.readings.specs.Readings.{strict}
+use Rattle.readings.specs.Pairs.{barred}
+use Rattle.header.specs.Header.{refusal, headerOf}
 use Rattle.header.specs.Accepted.{SameFormat}
-use Rattle.header.specs.Attempts.{elevenBits, stop, Synced, in-place, searched, layer, bitrate, samplerate, mode, flags, checked, afterCheck, formatBy, dataSize as sizeBy, BitrateGiven, Attempts, one, two, three, four, five, six, zero as accepted, attempt-table}
+use Rattle.header.specs.Attempts.{elevenBits, stop, Synced, in-place, searched, layer, bitrate, samplerate, mode, flags, checked, afterCheck, formatBy, dataSize as sizeBy, BitrateGiven, Attempts, one, two, three, four, five, thirteen, six, zero as accepted, attempt-table}
 use Rattle.header.specs.Passed.{Met, sync-is-ff}
 use Rattle.header.specs.declared.Attempt.{Attempt}
 use Rattle.header.specs.declared.Format.{Format}
 use Rattle.header.specs.declared.Header.the-variants.{Accepted}
-use Rattle.standard.specs.Header.{HeaderFields, syncword, id, bitrateIndex, samplingFrequency, modeBits, dataSize, dataBit}
-use Rattle.alike.specs.Fields.{Says, afterSync, bitsAt, field, version-is, layer-is, bitrate-is, samplerate-is, says, next-is, eleven-ones, version-3, twelve-ones}
+use Rattle.standard.specs.Header.{HeaderFields, syncword, id, bitrateIndex, samplingFrequency, modeBits, permitted, dataSize, dataBit}
+use Rattle.alike.specs.Fields.{Says, afterSync, bitsAt, field, version-is, layer-is, bitrate-is, samplerate-is, mode-is, says, next-is, eleven-ones, version-3, twelve-ones}
+use Rattle.alike.specs.Pairs.{Permits, permitted-is-taken, taken-is-permitted, not-permitted-is-refused}
 
 -- ---- a header of the standard is accepted
 
@@ -135,17 +138,35 @@ module _ (s : List ℕ) (bytes : (j : ℕ) → getD s j 0 < 256) (r : Reader) (b
         not-forbidden = λ e. omega (arith, fields .bitrate-most);
       }
 
-  pub the-standards-header : (known : Format) → Follows known s byte → AcceptedAt s r byte known
-  the-standards-header known follows =
-      let thirty : 8 * byte + 32 ≤ 8 * length s = omega arith in
+  thirty : 8 * byte + 32 ≤ 8 * length s
+  thirty = omega arith
+
+  near : r .at .0 ≤ farthestBit
+  near = let begins = reaches .from in omega arith
+
+  enough : 48 ≤ left s r
+  enough = let begins = reaches .from in omega arith
+
+  rate : samplerate s (afterSync byte) .value ≡ 3 → ⊥
+  rate e = omega (arith, fields .frequency, ap (λ (z : Field). z .value) (samplerate-is s byte short thirty))
+
+  -- a pair that the standard does not have: refused behind the mode, 26 bits from the FF
+  pub not-permitted-is-13 : (known : Format) → strict (known .reading) ≡ true → permitted (modeBits s byte) (bitrateIndex s byte) ≡ false
+      → headerOf s r known ≡ refusal 13 (byteAt byte) (readerAt (byte * 8 + 26))
+  not-permitted-is-13 known chosen none =
+      let pair = not-permitted-is-refused s byte short thirty (fields .bitrate-least) (fields .bitrate-most) (known .reading) chosen none in
+      sym (attempt-table s r short near known .only (thirteen enough found given rate pair) .0)
+      ∙ ap (λ (z : Field). refusal 13 (byteAt byte) (z .next)) (mode-is s byte short thirty)
+
+  pub the-standards-header : (known : Format) → Permits (known .reading) s byte → Follows known s byte → AcceptedAt s r byte known
+  the-standards-header known permits follows =
       let f = formatBy s (afterSync byte) (known .reading) in
       let w = says s byte short thirty (known .reading) in
-      let rate : samplerate s (afterSync byte) .value ≡ 3 → ⊥ = λ e. omega (arith, fields .frequency, w .samplerate) in
       let same : (known .samplerate ≡ 3 → ⊥) → SameFormat known f =
       λ n. let k = follows n in
       record { bitrate = w .bitrate ∙ k .bitrate; samplerate = w .samplerate ∙ k .samplerate; mode = w .mode ∙ k .mode } in
-      let begins = reaches .from in
-      let row = attempt-table s r short (omega arith) known .only (accepted (omega arith) found given rate same) in
+      let pair = permitted-is-taken s byte short thirty (fields .bitrate-least) (fields .bitrate-most) (known .reading) permits in
+      let row = attempt-table s r short near known .only (accepted enough found given rate pair same) in
       record {
         format = f;
         reading = refl;
@@ -200,6 +221,7 @@ pub record StandardsHeader (s : List ℕ) (r : Reader) (f : Format) (n : ℕ) (b
   pub from : (r .at .0 + 7) / 8 ≤ byte
   pub fields : 8 * byte + 32 ≤ 8 * length s → HeaderFields s byte
   pub says : 8 * byte + 32 ≤ 8 * length s → Says s byte f n
+  pub pair : 8 * byte + 32 ≤ 8 * length s → Permits (f .reading) s byte
   pub data-bit : 8 * byte + 48 ≤ 8 * length s → next ≡ readerAt (dataBit s byte)
   pub whole : next .at .0 + 16 ≤ 8 * length s → 8 * byte + 48 ≤ 8 * length s
 
@@ -231,22 +253,28 @@ module _ (s : List ℕ) (r : Reader) (short : length s ≤ longestStream) (known
         few : (n : ℕ) → n < 4 → (n ≡ 3 → ⊥) → n ≤ 2
         few n l h = omega arith
 
-  accepted-at : {b : BytePos} {after : Reader} → BitrateGiven s after → (samplerate s after .value ≡ 3 → ⊥) → Met s r b after
+  abbrev pairOf : Reader → Bool
+  pairOf after = barred (known .reading) (bitrate s after .value - 1) (mode s after .value)
+
+  accepted-at : {b : BytePos} {after : Reader} → BitrateGiven s after → (samplerate s after .value ≡ 3 → ⊥) → pairOf after ≡ false → Met s r b after
       → StandardsHeader s r (formatBy s after (known .reading)) (sizeBy s after) (b .0) (afterCheck s after)
-  accepted-at {b} u f met =
+  accepted-at {b} u f k met =
       let byte = b .0 in
       subst
-      (λ (p : Reader). BitrateGiven s p → (samplerate s p .value ≡ 3 → ⊥)
+      (λ (p : Reader). BitrateGiven s p → (samplerate s p .value ≡ 3 → ⊥) → pairOf p ≡ false
       → StandardsHeader s r (formatBy s p (known .reading)) (sizeBy s p) byte (afterCheck s p))
       (ap readerAt (sym (met .behind)))
-      (λ v g. record {
+      (λ v g k. record {
         from = met .forth;
         fields = λ room. fields-hold byte (met .ones) room v g;
         says = λ room. says s byte short room (known .reading);
+        pair =
+            λ room. let h = fields-hold byte (met .ones) room v g in
+            taken-is-permitted s byte short room (h .bitrate-least) (h .bitrate-most) (known .reading) k;
         data-bit = λ room. next-is s byte short (omega arith) room;
         whole = whole-header s short byte;
       })
-      u f
+      u f k
 
   by-row : {n : ℕ} {x : Attempt} → r .at .0 ≤ farthestBit → Attempts s r known n x → {f : Format} {size : ℕ} → x .header ≡ Accepted f size
       → StandardsHeader s r f size (x .sync .0) (x .next)
@@ -255,13 +283,14 @@ module _ (s : List ℕ) (r : Reader) (short : length s ≤ longestStream) (known
   by-row near (three _ _ _) e = absurd (let z : _≡_ {A = ℕ} 0 1 = cc in omega arith)
   by-row near (four _ _ _ _) e = absurd (let z : _≡_ {A = ℕ} 0 1 = cc in omega arith)
   by-row near (five _ _ _ _) e = absurd (let z : _≡_ {A = ℕ} 0 1 = cc in omega arith)
-  by-row near (six _ _ _ _ _ _) e = absurd (let z : _≡_ {A = ℕ} 0 1 = cc in omega arith)
-  by-row near (accepted {b = b} {q = after} room y u g same) {f} {size} e =
+  by-row near (thirteen _ _ _ _ _) e = absurd (let z : _≡_ {A = ℕ} 0 1 = cc in omega arith)
+  by-row near (six _ _ _ _ _ _ _) e = absurd (let z : _≡_ {A = ℕ} 0 1 = cc in omega arith)
+  by-row near (accepted {b = b} {q = after} room y u g k same) {f} {size} e =
       let same-format : formatBy s after (known .reading) ≡ f = cc in
       let same-size : sizeBy s after ≡ size = cc in
       subst (λ (h : Format). StandardsHeader s r h size (b .0) (afterCheck s after)) same-format
       (subst (λ (n : ℕ). StandardsHeader s r (formatBy s after (known .reading)) n (b .0) (afterCheck s after)) same-size
-      (accepted-at u g (sync-is-ff s r short near room y)))
+      (accepted-at u g k (sync-is-ff s r short near room y)))
 
   pub an-accepted-header : r .at .0 ≤ farthestBit → {f : Format} {size : ℕ} → headerOf s r known .header ≡ Accepted f size
       → StandardsHeader s r f size (headerOf s r known .sync .0) (headerOf s r known .next)

@@ -5,6 +5,7 @@ pub mod Made
 pub mod Alike
 pub mod Frames
 pub mod Fields
+pub mod Pairs
 pub mod Headers
 pub mod Values
 pub mod JointStereo

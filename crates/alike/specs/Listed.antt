@@ -18,7 +18,7 @@ use Rattle.tables.specs.Standard.{B2c, rowsOf, rowOf, stepsOf, sblimit, serves,
 use Rattle.tables.specs.Source.{sourceRowOf, widthOf, quantiserOf}
 use Rattle.tables.specs.Differences.{taken, tableOf}
 use Rattle.header.specs.Header.{headerOf, headerNumber, startOf, syncOf, fieldsOf, identOf, ratesOf, restOf, modeOf, boundOf, checkOf, sizeOf}
-use Rattle.header.specs.Readings.{plain}
+use Rattle.readings.specs.Readings.{plain}
 use Rattle.header.specs.Rows.{unknown}
 use Rattle.header.specs.declared.Attempt.{Attempt}
 use Rattle.header.specs.declared.Format.{Format}

@@ -18,7 +18,7 @@ use Rattle.tables.specs.Standard.{rateOf, kbpsOf}
 use Rattle.synthesis.specs.Slots.{positionAfter, memoryLength}
 use Rattle.frame.specs.Frame.{cutFormat, granulesAt, frameMemory, frameOutput}
 use Rattle.header.specs.declared.Format.{Format}
-use Rattle.header.specs.declared.Reading.{Reading}
+use Rattle.readings.specs.declared.Reading.{Reading}
 use Rattle.state.specs.State.{fresh, framedTo}
 use Rattle.state.specs.declared.Audio.{Audio}
 use Rattle.verdict.specs.Verdict.{attemptOf, unlessAtOnce, readyOf, knownOf}

@@ -15,7 +15,7 @@ use Rattle.ground.specs.Table.{length-table}
 use Rattle.buffer.specs.Bits.{longestStream}
 use Rattle.buffer.specs.declared.Reader.{Reader}
 use Rattle.header.specs.Header.{leastData}
-use Rattle.header.specs.declared.Reading.{Reading}
+use Rattle.readings.specs.declared.Reading.{Reading}
 use Rattle.window.specs.Output.{Place}
 use Rattle.grammar.specs.Widths.{run-moves}
 use Rattle.synthesis.specs.Slots.{positionAfter, memoryLength, outputLength}

@@ -91,6 +91,10 @@ littleRoom = 9
 abbrev pub badState : ℕ
 badState = 10
 
+-- a bit rate that the standard does not have in this mode; in the strict reading (02, E3)
+abbrev pub barredRate : ℕ
+barredRate = 13
+
 -- "On the same stream 1 and 7 repeat for ever": they end it. After any other number a later call may give a frame
 abbrev pub ends : ℕ → Bool
 ends n = eqb n noHeaderCanFollow || eqb n cutOff

@@ -3,7 +3,7 @@ use buffer::LONGEST_STREAM;
 use buffer::Moved;
 use buffer::Reader;
 use header::Format;
-use header::Reading;
+use readings::Reading;
 use state::Audio;
 use synthesis::MEMORY;
 use verdict::Asked;

@@ -19,7 +19,7 @@ use Rattle.tables.specs.Standard.{limitOf, chosen, serves, sblimit, rowsOf, lev
 use Rattle.tables.specs.Source.{sourceRowOf, widthOf, quantiserOf}
 use Rattle.tables.specs.Differences.{tableOf}
 use Rattle.header.specs.Header.{headerOf, startOf, syncOf, fieldsOf, identOf, ratesOf, restOf, modeOf, boundOf, checkOf, sizeOf}
-use Rattle.header.specs.Readings.{plain}
+use Rattle.readings.specs.Readings.{plain}
 use Rattle.header.specs.declared.Format.{Format}
 use Rattle.samples.specs.Sample.{scaleOf, adjOf, scaledBy, sampleOf, factorOf}
 use Rattle.side.specs.Bands.{bands, pairOf, channelsOf}

@@ -18,7 +18,7 @@ use Rattle.header.specs.Header.{headerOf, startOf, syncOf, fieldsOf, identOf, r
 use Rattle.codes.specs.Rows.{zeros, row-188}
 use Rattle.frame.specs.Frame.{codesIn}
 use Rattle.clock.specs.Clock.{sameBits, onTime, startTimeOf}
-use Rattle.header.specs.Readings.{plain}
+use Rattle.readings.specs.Readings.{plain}
 use Rattle.state.specs.State.{fresh, numbersOk, inRange, pends}
 use Rattle.verdict.specs.Verdict.{asked, attemptOf, headedOf, enoughOf, readyOf, atOnceOf}
 use Rattle.audio.specs.Calls.{openOf, openMemory, noRoomOf}
@@ -29,7 +29,7 @@ use Rattle.past.specs.Pasts.{Past, opened}
 use Rattle.past.specs.Calls.{Call, newOutput, sample, before, frameState, firstBit, bitsCalled, Accepts, known-accepted}
 use Rattle.past.specs.Ring.{memory-kept-long}
 use Rattle.claims.specs.Widths.{bits-are-the-widths}
-use Rattle.claims.specs.RingOut.{Agreeing, agree-on, rings-out}
+use Rattle.ringout.specs.RingOut.{Agreeing, agree-on, rings-out}
 
 -- the state after the header
 abbrev pub headed : Audio

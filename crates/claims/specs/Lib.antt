@@ -7,12 +7,10 @@ pub mod Settled
 pub mod Standard
 pub mod Widths
 pub mod Rows
-pub mod RingOut
 pub mod Mono
 pub mod Wave
 pub mod Lister
 pub mod OnBytes
-pub mod Occur
 pub mod Example
 pub mod ThreeLines
 pub mod Silence

@@ -1,4 +1,4 @@
--- The lister's lines: they come to an end, which is the last line and no other. From 01, the lister: "calls until 1 or 7".
+-- The lister's lines, in any reading: they come to an end, which is the last line and no other. From 01, the lister: "calls until 1 or 7".
 -- Assumes nothing.
 use Prim.Native.Nat.{ℕ, zero, suc, _+_, _*_, _/_, _≤_, _<_}
 use mathlib.Core.Path.{_≡_, refl, ap, _∙_}
@@ -14,7 +14,7 @@ use Rattle.ground.specs.Rows.{never}
 use Rattle.buffer.specs.Bits.{longestStream}
 use Rattle.buffer.specs.Calls.{left}
 use Rattle.synthesis.specs.Slots.{memoryLength, quiet}
-use Rattle.header.specs.Readings.{plain}
+use Rattle.readings.specs.declared.Reading.{Reading}
 use Rattle.state.specs.State.{fresh}
 use Rattle.state.specs.StateLaws.{fresh-ranged}
 use Rattle.state.specs.declared.Audio.{Audio}
@@ -88,20 +88,20 @@ unfolding nextOf
 carried-to-a-line carried c = line-skips (c .state .frames) (carried + outcome c .skipped) (outcome c .answer) (outcome c .state)
 
 -- 02, E2: "A header accepted at opening has no line; its number goes to the line after it": it is that line's number
-module _ (s : List ℕ) (short : length s ≤ longestStream) where
+module _ (r : Reading) (s : List ℕ) (short : length s ≤ longestStream) where
   abbrev opened : Asked
-  opened = openOf plain s (quiet memoryLength)
+  opened = openOf r s (quiet memoryLength)
 
-  pends : opened .answer ≡ Known → opening s .state .pending ≡ 0 → ⊥
+  pends : opened .answer ≡ Known → opening r s .state .pending ≡ 0 → ⊥
   pends =
-      by-opening plain s (quiet memoryLength) (λ (x : Asked). x .answer ≡ Known → x .state .pending ≡ 0 → ⊥) (λ _ e. absurd (not-known e))
-      (λ _ _ e. absurd (not-known e)) (λ l _. attempt-kept s l (fresh plain) (fresh-ranged plain) .some)
+      by-opening r s (quiet memoryLength) (λ (x : Asked). x .answer ≡ Known → x .state .pending ≡ 0 → ⊥) (λ _ e. absurd (not-known e))
+      (λ _ _ e. absurd (not-known e)) (λ l _. attempt-kept s l (fresh r) (fresh-ranged r) .some)
 
-  pub goes-to-the-line-after-it : opened .answer ≡ Known → skippedIn (lineAt (carriedBy (opened .skipped) (opened .answer)) (opening s)) ≡ opened .skipped
+  pub goes-to-the-line-after-it : opened .answer ≡ Known → skippedIn (lineAt (carriedBy (opened .skipped) (opened .answer)) (opening r s)) ≡ opened .skipped
   goes-to-the-line-after-it known =
-      carried-to-a-line (carriedBy (opened .skipped) (opened .answer)) (opening s)
-      ∙ ap (λ h. carriedBy (opened .skipped) h + outcome (opening s) .skipped) known
-      ∙ ap (λ k. opened .skipped + k) (nothing-sought s (opening s .memory) (opening s .output) (opening s .state) (pends known))
+      carried-to-a-line (carriedBy (opened .skipped) (opened .answer)) (opening r s)
+      ∙ ap (λ h. carriedBy (opened .skipped) h + outcome (opening r s) .skipped) known
+      ∙ ap (λ k. opened .skipped + k) (nothing-sought s (opening r s .memory) (opening r s .output) (opening r s .state) (pends known))
       ∙ add-zero (opened .skipped)
 
 -- and no later line has it
@@ -136,19 +136,19 @@ opening-first skipped (HeadingRefused n) a xs e =
     (λ _. e)
 
 -- so the listing of every stream ends, and says so
-pub listing-ends : (s : List ℕ) → EndsOnce (linesOf s)
+pub listing-ends : (r : Reading) (s : List ℕ) → EndsOnce (linesOf r s)
 unfolding shownOf calledOf
-listing-ends s =
+listing-ends r s =
     by-test (λ (xs : List Shown). EndsOnce (linesIn xs)) (tooLong s) _ _ (λ _. at-once Long refl)
     (λ t. let short = ltb-false 65536 (length s) t in
-    let opened = openOf plain s (quiet memoryLength) in
+    let opened = openOf r s (quiet memoryLength) in
     opening-first (opened .skipped) (opened .answer) (opened .state) _
-    (comes-to-an-end (length s / 2 + 1) (length s / 2 + 2) (carriedBy (opened .skipped) (opened .answer)) (opening s) (omega arith) (opening-begun s (omega arith)) (omega arith)))
+    (comes-to-an-end (length s / 2 + 1) (length s / 2 + 2) (carriedBy (opened .skipped) (opened .answer)) (opening r s) (omega arith) (opening-begun r s (omega arith)) (omega arith)))
 
 -- "the one line `long`"
-pub long-is-one-line : (s : List ℕ) → 65536 < length s → linesOf s ≡ Long ∷ []
+pub long-is-one-line : (r : Reading) (s : List ℕ) → 65536 < length s → linesOf r s ≡ Long ∷ []
 unfolding shownOf
-long-is-one-line s long = rw (lt-ltb 65536 (length s) long)
+long-is-one-line r s long = rw (lt-ltb 65536 (length s) long)
 
 -- ---- the text
 
@@ -162,9 +162,9 @@ lines-text [] = refl
 lines-text (x ∷ xs) = ap (λ (more : List ℕ). textOf (x .line) ++ more) (lines-text xs)
 
 -- all that the lister writes is the text of its lines, one after the other
-pub listing-is-its-lines : (s : List ℕ) → listingOf Nothing s ≡ flatMap textOf (linesOf s)
+pub listing-is-its-lines : (r : Reading) (s : List ℕ) → listingOf r Nothing s ≡ flatMap textOf (linesOf r s)
 unfolding listingOf
-listing-is-its-lines s = lines-text (shownOf s)
+listing-is-its-lines r s = lines-text (shownOf r s)
 
 -- with words likewise, and the lines are the same
 abbrev pub wordedOf : Line → List ℕ
@@ -175,6 +175,6 @@ unfolding textsOf flatMap
 worded-text [] = refl
 worded-text (x ∷ xs) = ap (λ (more : List ℕ). wordedOf (x .line) ++ more) (worded-text xs)
 
-pub worded-is-its-lines : (s : List ℕ) → listingOf Words s ≡ flatMap wordedOf (linesOf s)
+pub worded-is-its-lines : (r : Reading) (s : List ℕ) → listingOf r Words s ≡ flatMap wordedOf (linesOf r s)
 unfolding listingOf
-worded-is-its-lines s = worded-text (shownOf s)
+worded-is-its-lines r s = worded-text (shownOf r s)

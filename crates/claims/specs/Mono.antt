@@ -27,7 +27,7 @@ use Rattle.synthesis.specs.Memory.{ring-of-length}
 use Rattle.synthesis.specs.Equal.{slots-equal, rings-stay-equal, outputs-equal}
 use Rattle.finite.specs.Each.{Each, InBothRings}
 use Rattle.frame.specs.Frame.{limitIn, codesIn, granulesAt, slotsOf}
-use Rattle.header.specs.Readings.{plain}
+use Rattle.readings.specs.Readings.{plain}
 use Rattle.state.specs.State.{fresh}
 use Rattle.verdict.specs.Verdict.{seeking, attemptOf}
 use Rattle.audio.specs.Calls.{decodeMemory, openOf, openMemory, noRoomOf}
@@ -162,7 +162,7 @@ module _ (s : List ℕ) (short : length s ≤ longestStream) (mono : openOf plai
   mono-clip =
       in-clip InMono (λ x. (k : ℕ) → 1 ≤ k → k ≤ 1152 → sample (x .samples) 0 k ≡ sample (x .samples) 1 k) mono-on
       (λ c q ok. mono-alike (q .past) ok (sym (after-frame c .mode) ∙ format-stays c (q .known) .mode ∙ q .mode))
-      s (record { past = opening-past s short; known = open-known s (quiet memoryLength) mono; mode = mono })
+      s (record { past = opening-past plain s short; known = open-known s (quiet memoryLength) mono; mode = mono })
 
   -- the right sample's two bytes are those of the left, which stand before them
   pub mono-file : (i : ℕ) → i < length (clipOf s) → (k : ℕ) → 1 ≤ k → k ≤ 1152 → let at = 44 + (4608 * i + 4 * (k - 1)) in

@@ -1,5 +1,5 @@
 -- The three public calls by 01's table: each number given exactly when, what is left behind, and the order where several would hold:
--- 8, 9, 10, then 1 to 6 as the header is read, then 7. Each row also says how many bytes were passed over (02, E2). Each table has its
+-- 8, 9, 10, then 1 to 6 and 13 (02, E3) as the header is read, then 7. Each row also says how many bytes were passed over (02, E2). Each table has its
 -- rows as constructors. Assumes nothing.
 use Prim.Native.Nat.{ℕ, _-_, _*_, _≤_, _<_}
 use mathlib.Core.Path.{_≡_, refl, sym, ap, subst, _∙_}
@@ -7,6 +7,7 @@ use mathlib.Core.Bool.{true, false}
 use mathlib.Core.List.{List}
 use mathlib.Core.Logic.{_⊎_, inl, inr}
 use native.Mathlib.Omega.{arith}
+use lib.Dec.{T}
 use lib.Ieee.{Float}
 use lib.ListN.{length}
 use borrow.Author.Tests.{lt-ltb, le-ltb, eq-eqb, ne-eqb}
@@ -26,7 +27,7 @@ use Rattle.audio.specs.Numbers.{headingNumber, replyNumber, answerNumber}
 use Rattle.state.specs.StateLaws.{ranged, in-range}
 use Rattle.audio.specs.CallsLaws.{by-opening}
 use Rattle.verdict.specs.VerdictLaws.{Room, Called, AtOnce, Heads, Verdict, at-once, no-header, cut-off, whole, verdict-holds, verdict-only, heads-kept, by-asking, not-known}
-use Rattle.header.specs.declared.Reading.{Reading}
+use Rattle.readings.specs.declared.Reading.{Reading}
 use Rattle.state.specs.declared.Audio.{Audio}
 use Rattle.verdict.specs.declared.Asked.{Asked}
 use Rattle.verdict.specs.declared.Heading.the-variants.{Known, Refused}
@@ -38,7 +39,7 @@ use Rattle.audio.specs.declared.Decoded.{Decoded}
 use Rattle.ground.specs.Rows.{TableOf, exactly, never}
 use Rattle.synthesis.specs.Slots.{memoryLength, outputLength}
 use Rattle.buffer.specs.Bits.{longestStream}
-use Rattle.header.specs.Attempts.{Attempts, attempt-table, attempt-number, first-number}
+use Rattle.header.specs.Attempts.{Attempts, attempt-table, attempt-number, firstGives, first-number}
 use Rattle.past.specs.Pasts.{Past}
 use Rattle.past.specs.Sound.{fresh-in-range, sound-state-in-range}
 
@@ -75,7 +76,7 @@ pub data Decodes (s : List ℕ) (memory output : List Float) (a : Audio) : ℕ �
   nine : length s ≤ longestStream → (length memory < memoryLength) ⊎ (length output < outputLength) → Decodes s memory output a 9 (refused 0 9 a)
   -- "state out of range": "same state"
   ten : Lent s memory output → inRange a ≡ false → Decodes s memory output a 10 (refused 0 10 a)
-  -- 1 to 6: no header pending, and the attempt gives it: "position moved", "old format kept"; with 1 the position is the same, and no byte
+  -- 1 to 6, 13: no header pending, and the attempt gives it: "position moved", "old format kept"; with 1 the position is the same, and no byte
   -- is passed over
   sought : {n : ℕ} {sync : BytePos} {r : Reader} → InOrder s memory output a → a .pending ≡ 0
       → Attempts s (a .reader) (a .format) n (refusal n sync r) → Decodes s memory output a n (refused (passed a sync) n (standsAt r a))
@@ -197,7 +198,7 @@ module _ (s : List ℕ) (a : Audio) (short : length s ≤ longestStream) (within
   tried-only {x = x} t =
       (sym (attempted s a short within t), tried-number _ (x .header) (x .next) ∙ rows s a short within .only t .1)
 
--- ---- format: "8, 10, then 0 if a header is known, else 1 to 5 or 0" (01); "sample rate, kbps and mode, or .. the refusal number" (02, E7)
+-- ---- format: "8, 10, then 0 if a header is known, else 1 to 5 or 0" (01), or 13 (02, E3); "sample rate, kbps and mode, or .. the refusal number" (02, E7)
 
 -- the format in the units of the lister's line
 abbrev pub told : Format → Reply
@@ -216,7 +217,7 @@ pub data Asks (s : List ℕ) (a : Audio) : ℕ → Replied → Type 0 where
   accepted : {f : Format} {size : ℕ} {sync : BytePos} {r : Reader} → length s ≤ longestStream → inRange a ≡ true → a .format .samplerate ≡ 3
       → Attempts s (a .reader) (a .format) 0 (record { header = Accepted f size; sync = sync; next = r })
       → Asks s a 0 (record { answer = told f; state = pends r f size a; skipped = passed a sync })
-  -- sought and refused, 1 to 5: "position moved"; with 1 it is the same
+  -- sought and refused, 1 to 5 or 13: "position moved"; with 1 it is the same
   sought : {n : ℕ} {sync : BytePos} {r : Reader} → length s ≤ longestStream → inRange a ≡ true → a .format .samplerate ≡ 3
       → Attempts s (a .reader) (a .format) n (refusal n sync r) → Asks s a n (unanswered (passed a sync) n (standsAt r a))
 
@@ -245,17 +246,17 @@ module _ (s : List ℕ) (a : Audio) where
   unfolding formatOf Replies
   question-table = record { holds = by-asking s a Replies eight ten known attempt-replies; only = question-only }
 
-question-row : {s : List ℕ} {a : Audio} {n : ℕ} {x : Replied} → Asks s a n x → (n ≤ 5) ⊎ ((n ≡ 8) ⊎ (n ≡ 10))
+question-row : {s : List ℕ} {a : Audio} {n : ℕ} {x : Replied} → Asks s a n x → T (firstGives n) ⊎ ((n ≡ 8) ⊎ (n ≡ 10))
 question-row (eight l) = inr (inl refl)
 question-row (ten l w) = inr (inr refl)
-question-row (known l w e) = inl (omega arith)
-question-row (accepted l w e t) = inl (omega arith)
+question-row (known l w e) = inl tt
+question-row (accepted l w e t) = inl tt
 question-row (sought l w e t) = inl (first-number e t)
 
-pub question-gives : (s : List ℕ) (a : Audio) → let n = replyNumber (formatOf s a .answer) in (n ≤ 5) ⊎ ((n ≡ 8) ⊎ (n ≡ 10))
+pub question-gives : (s : List ℕ) (a : Audio) → let n = replyNumber (formatOf s a .answer) in T (firstGives n) ⊎ ((n ≡ 8) ⊎ (n ≡ 10))
 question-gives s a = question-row (question-table s a .holds)
 
--- ---- new: "it can give 0 to 5, 8 or 9 (memory only)"
+-- ---- new: "it can give 0 to 5, 8 or 9 (memory only)"; 02, E3: "opening can give it [13], just as 2 to 5"
 
 pub data Opens (c : Reading) (s : List ℕ) (memory : List Float) : ℕ → Asked → Type 0 where
   eight : longestStream < length s → Opens c s memory 8 (asked 0 (Refused 8) (fresh c))
@@ -280,27 +281,27 @@ open-table c s memory = record { holds = stands; only = only }
     only (nine l m) = (simp (le-ltb _ _ l, lt-ltb _ _ m), refl)
     only (sought l m t) = let o = tried-only s (fresh c) l (fresh-in-range c) t in (simp (le-ltb _ _ l, le-ltb _ _ m) (o .0), o .1)
 
-opening-row : {c : Reading} {s : List ℕ} {memory : List Float} {n : ℕ} {x : Asked} → Opens c s memory n x → (n ≤ 5) ⊎ ((n ≡ 8) ⊎ (n ≡ 9))
+opening-row : {c : Reading} {s : List ℕ} {memory : List Float} {n : ℕ} {x : Asked} → Opens c s memory n x → T (firstGives n) ⊎ ((n ≡ 8) ⊎ (n ≡ 9))
 unfolding fresh
 opening-row (eight l) = inr (inl refl)
 opening-row (nine l m) = inr (inr refl)
 opening-row (sought l m t) = inl (first-number refl t)
 
-pub opening-gives : (c : Reading) (s : List ℕ) (memory : List Float) → let n = headingNumber (openOf c s memory .answer) in (n ≤ 5) ⊎ ((n ≡ 8) ⊎ (n ≡ 9))
+pub opening-gives : (c : Reading) (s : List ℕ) (memory : List Float) → let n = headingNumber (openOf c s memory .answer) in T (firstGives n) ⊎ ((n ≡ 8) ⊎ (n ≡ 9))
 opening-gives c s memory = opening-row (open-table c s memory .holds)
 
 -- ---- 10 is never given by a decoder with a past, nor by an opening
 
 decode-ten : {s : List ℕ} {memory output : List Float} {a : Audio} {x : Decoded} → Decodes s memory output a 10 x → inRange a ≡ false
 decode-ten (ten l r) = r
-decode-ten (sought c e t) = absurd (let n = attempt-number t in omega arith)
+decode-ten (sought c e t) = absurd (attempt-number t)
 
 question-ten : {s : List ℕ} {a : Audio} {x : Replied} → Asks s a 10 x → inRange a ≡ false
 question-ten (ten l w) = w
-question-ten (sought l w e t) = absurd (let n = attempt-number t in omega arith)
+question-ten (sought l w e t) = absurd (attempt-number t)
 
 opening-ten : {c : Reading} {s : List ℕ} {m : List Float} {x : Asked} → Opens c s m 10 x → ⊥
-opening-ten (sought l k t) = let n = attempt-number t in omega arith
+opening-ten (sought l k t) = attempt-number t
 
 module _ {a : Audio} {m : List Float} (past : Past a m) where
   pub ten-is-never-given : (s : List ℕ) (memory output : List Float) → answerNumber (decodeOf s memory output a .answer) ≡ 10 → ⊥

@@ -19,7 +19,7 @@ use Rattle.buffer.specs.declared.BytePos.{BytePos}
 use Rattle.buffer.specs.declared.Reader.{Reader}
 use Rattle.grammar.specs.Reads.{Reads, done, ask, _>>=_, Ran, run}
 use Rattle.header.specs.Header.{bySearch, seekOf, syncOf, startOf, byStart, headerOf}
-use Rattle.header.specs.Header.{identOf, ratesOf, modeOf, checkOf, boundOf, boundBy, sizeOf, differs, restOf, byRates, byIdent, fieldsOf}
+use Rattle.header.specs.Header.{identOf, ratesOf, modeOf, checkOf, boundOf, boundBy, sizeOf, afterModeOf, restOf, byRates, byIdent, fieldsOf}
 use Rattle.header.specs.Moves.{few-bits-stay}
 use Rattle.header.specs.declared.Ident.{Ident}
 use Rattle.header.specs.declared.Ident.the-variants.{LayerII, Refused as IdentRefused}
@@ -29,7 +29,7 @@ use Rattle.header.specs.declared.Header.{Header}
 use Rattle.header.specs.declared.Header.the-variants.{Accepted, Refused as HeaderRefused}
 use Rattle.header.specs.declared.Start.{Start}
 use Rattle.header.specs.declared.Start.the-variants.{At, Refused as StartRefused}
-use Rattle.header.specs.declared.Reading.{Reading}
+use Rattle.readings.specs.declared.Reading.{Reading}
 use Rattle.tables.specs.Standard.{kbpsOf, rateOf}
 use Rattle.state.specs.State.{fresh}
 use Rattle.state.specs.StateLaws.{Ranged, ranged}
@@ -110,12 +110,13 @@ module _ (s : List ℕ) (short : length s ≤ longestStream) where
 
   mode-ends : (known : Format) (check : Bool) (b f p mode : ℕ) (r : Reader)
       → ((r .at .0 % 8 ≡ 2) × (r .at .0 + 6 ≤ 8 * length s)) ⊎ (r .at .0 ≡ 8 * length s)
-      → Ends (run (cond (differs known b f mode) (done (HeaderRefused 6))
+      → Ends (run (cond (eqb (afterModeOf known b f mode) 0)
       (boundOf mode check >>= λ bound.
-      done (Accepted (record { reading = known .reading; samplerate = f; bitrate = b; mode = mode; bound = bound }) (sizeOf b f p check)))) s r)
+      done (Accepted (record { reading = known .reading; samplerate = f; bitrate = b; mode = mode; bound = bound }) (sizeOf b f p check)))
+      (done (HeaderRefused (afterModeOf known b f mode)))) s r)
   unfolding run
   mode-ends known check b f p mode r place =
-      by-test (λ (x : Reads Header). Ends (run x s r)) (differs known b f mode) _ _ (λ _. tt) (λ _. bound-ends mode check _ r (λ _ _ z. z) place)
+      by-test (λ (x : Reads Header). Ends (run x s r)) (eqb (afterModeOf known b f mode) 0) _ _ (λ _. bound-ends mode check _ r (λ _ _ z. z) place) (λ _. tt)
 
   -- private bit and mode: the last bit of the third byte, which is there, and the first two of the fourth
   rest-ends : (known : Format) (check : Bool) (b f p : ℕ) (r : Reader) → r .at .0 % 8 ≡ 7 → r .at .0 + 1 ≤ 8 * length s

@@ -21,7 +21,7 @@ use Rattle.header.specs.Passed.{Passed, attempt-passed, sync-within}
 use Rattle.header.specs.declared.Attempt.{Attempt}
 use Rattle.header.specs.declared.Header.{Header}
 use Rattle.header.specs.declared.Header.the-variants.{Accepted, Refused as HeaderRefused}
-use Rattle.header.specs.declared.Reading.{Reading}
+use Rattle.readings.specs.declared.Reading.{Reading}
 use Rattle.alike.specs.Headers.{StandardsHeader, an-accepted-header}
 use Rattle.state.specs.State.{fresh, inRange}
 use Rattle.state.specs.StateLaws.{ranged}

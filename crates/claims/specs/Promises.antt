@@ -10,11 +10,13 @@ use lib.ListN.{length, getD}
 use Rattle.ground.specs.Rows.{TableOf}
 use Rattle.synthesis.specs.Slots.{memoryLength}
 use Rattle.buffer.specs.Bits.{longestStream, farthestBit}
+use Rattle.buffer.specs.Calls.{readerAt, byteAt}
 use Rattle.buffer.specs.declared.Reader.{Reader}
-use Rattle.header.specs.Header.{headerOf}
+use Rattle.readings.specs.Readings.{strict}
+use Rattle.header.specs.Header.{refusal, headerOf}
 use Rattle.header.specs.declared.Format.{Format}
 use Rattle.header.specs.declared.Header.the-variants.{Accepted}
-use Rattle.header.specs.declared.Reading.{Reading}
+use Rattle.readings.specs.declared.Reading.{Reading}
 use Rattle.clock.specs.Clock.{startTimeOf}
 use Rattle.state.specs.State.{inRange}
 use Rattle.state.specs.declared.Audio.{Audio}
@@ -26,20 +28,21 @@ use Rattle.audio.specs.declared.Decoded.{Decoded}
 use Rattle.audio.specs.declared.Replied.{Replied}
 use Rattle.tables.specs.Standard.{Table, stepsOf}
 use Rattle.tables.specs.Differences.{differsAt}
-use Rattle.standard.specs.Header.{HeaderFields, allocationTable}
+use Rattle.standard.specs.Header.{HeaderFields, bitrateIndex, modeBits, permitted, allocationTable}
 use Rattle.alike.specs.Replaced.{Listed, the-list, replaced}
 use Rattle.alike.specs.Frames.{Unlisted}
-use Rattle.alike.specs.Headers.{Follows, Reaches, AcceptedAt, the-standards-header, StandardsHeader, an-accepted-header}
+use Rattle.alike.specs.Pairs.{Permits}
+use Rattle.alike.specs.Headers.{Follows, Reaches, AcceptedAt, the-standards-header, not-permitted-is-13, StandardsHeader, an-accepted-header}
 use Rattle.past.specs.Pasts.{Past}
 use Rattle.past.specs.Calls.{Call, outcome, newMemory, newOutput, sample, frameState, firstBit, bitsCalled, Accepts, endOf}
-use Rattle.past.specs.Sound.{sound-state-in-range, time-by-frames}
+use Rattle.past.specs.Sound.{sound-state-in-range, readingOf, time-by-frames}
 use Rattle.past.specs.Finite.{BitForBit}
 use Rattle.claims.specs.Numbers.{Decodes, decode-table, Opens, open-table, Asks, question-table}
 use Rattle.claims.specs.Untouched.{refused-call-leaves-all, opening-clears}
 use Rattle.claims.specs.Settled.{Rests, an-end-lasts}
-use Rattle.claims.specs.Standard.{readingOver, ReadAs, unlisted-reads-the-same, ReadByItsFormat, accepted-as-the-standard, On, StandardsFrame, accepted-frames-are-the-standards}
+use Rattle.claims.specs.Standard.{readingOver, ReadAs, unlisted-reads-the-same, ReadByItsFormat, accepted-as-the-standard, On, StandardsFrame, accepted-frames-are-the-standards, strict-frames-have-the-standards-pairs}
 use Rattle.claims.specs.Widths.{bits-are-the-movement, bits-are-the-widths}
-use Rattle.claims.specs.RingOut.{Agreeing, Together, same-bits-used, rings-out-bit-for-bit, whatever-the-memories, every-later-sample-bit-for-bit}
+use Rattle.ringout.specs.RingOut.{Agreeing, Together, same-bits-used, rings-out-bit-for-bit, whatever-the-memories, every-later-sample-bit-for-bit}
 use Rattle.claims.specs.Sharp.{TellsApart, rings-on-for-15-blocks}
 
 pub record Demand1 : Type 0 where
@@ -78,7 +81,15 @@ pub record Demand2 : Type 0 where
       → ok .time ≡ startTimeOf (c .state .frames) (frameState c .format .samplerate)
   -- "Header, ..": the standard's, in a stream of bytes, is accepted by the attempt that reaches it, with its fields, bound and frame size ..
   pub headers-are-the-standards : (s : List ℕ) → ((j : ℕ) → getD s j 0 < 256) → (r : Reader) (byte : ℕ) → Reaches s r byte → length s ≤ longestStream
-      → 8 * byte + 48 ≤ 8 * length s → HeaderFields s byte → (known : Format) → Follows known s byte → AcceptedAt s r byte known
+      → 8 * byte + 48 ≤ 8 * length s → HeaderFields s byte → (known : Format) → Permits (known .reading) s byte → Follows known s byte
+      → AcceptedAt s r byte known
+  -- .. 02, E3: "in the strict one demand 2 is over the standard's pairs": one with another pair is refused with 13, behind its mode ..
+  pub another-pair-is-13 : (s : List ℕ) → ((j : ℕ) → getD s j 0 < 256) → (r : Reader) (byte : ℕ) → Reaches s r byte → length s ≤ longestStream
+      → 8 * byte + 48 ≤ 8 * length s → HeaderFields s byte → (known : Format) → strict (known .reading) ≡ true
+      → permitted (modeBits s byte) (bitrateIndex s byte) ≡ false → headerOf s r known ≡ refusal 13 (byteAt byte) (readerAt (byte * 8 + 26))
+  -- .. so no frame is accepted with one, whatever the calls since a strict opening ..
+  pub strict-pairs : {c : Call} (past : Past (c .state) (c .memory)) → strict (readingOf past) ≡ true → Accepts c
+      → let f = frameState c .format in permitted (f .mode) (f .bitrate + 1) ≡ true
   -- .. and an accepted one, where its bits are there, is one of the standard's
   pub only-the-standards-headers : (s : List ℕ) (r : Reader) → length s ≤ longestStream → (known : Format) → r .at .0 ≤ farthestBit
       → {f : Format} {size : ℕ} → headerOf s r known .header ≡ Accepted f size
@@ -101,6 +112,8 @@ demand-2 =
       bits-are-the-sum-of-widths = bits-are-the-widths;
       start-time-by-frames = time-by-frames;
       headers-are-the-standards = the-standards-header;
+      another-pair-is-13 = not-permitted-is-13;
+      strict-pairs = strict-frames-have-the-standards-pairs;
       only-the-standards-headers = an-accepted-header;
       codes-are-the-standards = accepted-as-the-standard;
       frames-are-the-standards = accepted-frames-are-the-standards;

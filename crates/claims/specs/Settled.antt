@@ -18,14 +18,14 @@ use Rattle.verdict.specs.Verdict.{tried, attemptOf}
 use Rattle.audio.specs.Calls.{decodeOf, formatOf}
 use Rattle.audio.specs.CallsLaws.{question-leaves}
 use Rattle.audio.specs.Numbers.{answerNumber, ends, callersMistake}
-use lib.Dec.{eqb}
+use lib.Dec.{T, eqb}
 use borrow.Author.Tests.{eqb-true, eqb-false}
 use Rattle.ground.specs.Tests.{either, neither}
-use Rattle.ground.specs.Rows.{never}
+use Rattle.ground.specs.Rows.{never, is-false}
 use Rattle.state.specs.declared.Audio.{Audio}
 use Rattle.audio.specs.declared.Decoded.{Decoded}
 use Rattle.ground.specs.Rows.{exactly}
-use Rattle.header.specs.Attempts.{one, attempt-number}
+use Rattle.header.specs.Attempts.{one, attemptGives, attempt-number}
 use Rattle.header.specs.Moves.{few-bits-stay}
 use Rattle.header.specs.declared.Attempt.{Attempt}
 use Rattle.claims.specs.Numbers.{Lent, InOrder, passed, waits, Decodes, eight, nine, ten, sought, seven, zero as frame, refused, decode-table, pending-within}
@@ -79,7 +79,7 @@ module _ {s : List ℕ} {memory output : List Float} {a : Audio} where
       (inr l)
 
   seven-settles : {x : Decoded} → Decodes s memory output a 7 x → Rests s 7 (x .state)
-  seven-settles (sought c e t) = absurd (let n = attempt-number t in omega arith)
+  seven-settles (sought c e t) = absurd (attempt-number t)
   seven-settles (seven {b = b} c h l) =
       let within = pending-within s memory output a c h in
       rests
@@ -95,6 +95,13 @@ module _ (s : List ℕ) (memory output : List Float) (a : Audio) where
 
 -- ---- which numbers end a stream, and which are the caller's (audio, Numbers)
 
+attempt-is-no-mistake : (n : ℕ) → T (attemptGives n) → callersMistake n ≡ false
+attempt-is-no-mistake n t =
+    is-false _ (λ e. either {a = eqb n 8} ⊥ e (λ h. at 8 h) (λ f. either {a = eqb n 9} ⊥ f (λ h. at 9 h) (λ h. at 10 h)))
+  where
+    at : (k : ℕ) → eqb n k ≡ true → T (attemptGives k)
+    at k h = subst (λ i. T (attemptGives i)) (eqb-true n k h) t
+
 module _ (s : List ℕ) (memory output : List Float) (a : Audio) where
   abbrev number : ℕ
   number = answerNumber (decodeOf s memory output a .answer)
@@ -107,30 +114,22 @@ module _ (s : List ℕ) (memory output : List Float) (a : Audio) where
       (λ h. let n = eqb-true _ _ h in subst (λ k. Rests s k (decodeOf s memory output a .state)) (sym n) (seven-rests s memory output a n))
 
   -- what `callersMistake` says of 8, 9 and 10: something was lent or saved wrong, and nothing happened
-  mistaken : {n : ℕ} {x : Decoded} → Decodes s memory output a n x → (n ≤ 7) ⊎ ((InOrder s memory output a → ⊥) × (x .state ≡ a))
+  mistaken : {n : ℕ} {x : Decoded} → Decodes s memory output a n x → (callersMistake n ≡ false) ⊎ ((InOrder s memory output a → ⊥) × (x .state ≡ a))
   mistaken (eight l) = inr ((λ c. let k = c .room .short in omega arith), refl)
   mistaken (nine l (inl h)) = inr ((λ c. let k = c .room .memory-long in omega arith), refl)
   mistaken (nine l (inr h)) = inr ((λ c. let k = c .room .output-long in omega arith), refl)
   mistaken (ten l r) = inr ((λ c. never (c .within) r), refl)
-  mistaken (sought c e t) = inl (omega (arith, attempt-number t))
-  mistaken (seven c h l) = inl (omega arith)
-  mistaken (frame c h l) = inl (omega arith)
+  mistaken (sought {n = n} c e t) = inl (attempt-is-no-mistake n (attempt-number t))
+  mistaken (seven c h l) = inl refl
+  mistaken (frame c h l) = inl refl
 
   pub a-mistake-is-the-callers : callersMistake number ≡ true
       → (InOrder s memory output a → ⊥) × (decodeOf s memory output a .state ≡ a)
   a-mistake-is-the-callers e = go (mistaken (decode-table s memory output a .holds))
     where
-      is : (k : ℕ) → 8 ≤ k → number ≡ k → 8 ≤ number
-      is k l n = omega arith
-
-      large : callersMistake number ≡ true → 8 ≤ number
-      large e =
-          either {a = eqb number 8} _ e (λ h. is 8 (omega arith) (eqb-true number 8 h))
-          (λ f. either {a = eqb number 9} _ f (λ h. is 9 (omega arith) (eqb-true number 9 h)) (λ h. is 10 (omega arith) (eqb-true number 10 h)))
-
-      go : (number ≤ 7) ⊎ ((InOrder s memory output a → ⊥) × (decodeOf s memory output a .state ≡ a))
+      go : (callersMistake number ≡ false) ⊎ ((InOrder s memory output a → ⊥) × (decodeOf s memory output a .state ≡ a))
           → (InOrder s memory output a → ⊥) × (decodeOf s memory output a .state ≡ a)
-      go (inl l) = absurd (let k = large e in omega arith)
+      go (inl none) = absurd (never e none)
       go (inr p) = p
 
   -- and every other number is no end: reading moves on

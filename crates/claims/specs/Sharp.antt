@@ -39,7 +39,7 @@ use Rattle.past.specs.Calls.{Call, newOutput, sample, granulesIn, known-accepte
 use Rattle.past.specs.Finite.{BitForBit}
 use Rattle.past.specs.Ring.{ring-in-place, memory-kept-long}
 use Rattle.claims.specs.Clips.{knocking, silent, behind, silence, knock, mono, headed, headed-two, headed-three, Course, courses, first, second, third, past-one, past-two, opened-at, before-first, state-one, before-second, before-third}
-use Rattle.claims.specs.RingOut.{Agreeing, agree-on, Together, begin, rings-out, every-later-sample}
+use Rattle.ringout.specs.RingOut.{Agreeing, agree-on, Together, begin, rings-out, every-later-sample}
 
 -- ---- sample 480 of the second frame
 

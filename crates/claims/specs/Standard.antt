@@ -1,7 +1,8 @@
 -- Demand 2: "Header, allocation, scale factors and sample codes are proved against a definition written from ISO/IEC 11172-3 Layer II;
 -- where Rust and standard part, the list says so." Over decoders: every frame that a call accepts is read as the standard lists it, to the
 -- same bit, over its tables with the one listed entry replaced. Where all calls since opening were on one stream, the frame's header is a
--- header of the standard at a byte of it, and the reading begins where the standard says. Assumes nothing.
+-- header of the standard at a byte of it, and the reading begins where the standard says. In the strict reading (02, E3) its pair of bit rate
+-- and mode is one that the standard has. Assumes nothing.
 use Prim.Native.Nat.{ℕ, _+_, _-_, _*_, _≤_, _<_}
 use mathlib.Core.Path.{_≡_, refl, sym, ap, subst, _∙_}
 use mathlib.Core.Bool.{true}
@@ -18,13 +19,14 @@ use Rattle.buffer.specs.declared.Reader.{Reader}
 use Rattle.grammar.specs.Reads.{Ran, run}
 use Rattle.tables.specs.Standard.{stepsOf, limitOf, sblimit}
 use Rattle.tables.specs.Differences.{tableOf}
+use Rattle.readings.specs.Readings.{strict}
 use Rattle.header.specs.Header.{headerOf}
 use Rattle.header.specs.declared.Attempt.{Attempt}
 use Rattle.header.specs.declared.Format.{Format}
 use Rattle.header.specs.declared.Header.{Header}
 use Rattle.header.specs.declared.Header.the-variants.{Accepted, Refused as HeaderRefused}
 use Rattle.side.specs.Side.{cutOf}
-use Rattle.standard.specs.Header.{HeaderFields, bitrateIndex, samplingFrequency, modeBits, modeExtension, bound, allocationTable, frameSize, dataBit}
+use Rattle.standard.specs.Header.{HeaderFields, bitrateIndex, samplingFrequency, modeBits, modeExtension, bound, allocationTable, permitted, frameSize, dataBit}
 use Rattle.standard.specs.AudioData.{Steps, AudioFields, audioDataOver}
 use Rattle.alike.specs.Made.{samplesBy01}
 use Rattle.alike.specs.Replaced.{replaced}
@@ -32,6 +34,7 @@ use Rattle.alike.specs.Bound.{Bounds, the-standards-bound}
 use Rattle.alike.specs.Alike.{frame-by-bounds}
 use Rattle.alike.specs.Frames.{Unlisted, unlisted-is-the-standards}
 use Rattle.alike.specs.Fields.{Says}
+use Rattle.alike.specs.Pairs.{Permits, not-barred-is-permitted}
 use Rattle.alike.specs.Headers.{Follows, Reaches, AcceptedAt, the-standards-header, an-accepted-header}
 use Rattle.frame.specs.Frame.{codesIn, granulesAt}
 use Rattle.state.specs.State.{fresh, inRange}
@@ -46,7 +49,7 @@ use Rattle.audio.specs.Calls.{answering, afterOf, framedOf, decodeOf, openOf, f
 use Rattle.audio.specs.CallsLaws.{question-leaves, by-opening}
 use Rattle.past.specs.Pasts.{Past, opened, asked as has-asked, decoded, refused, relent}
 use Rattle.past.specs.Calls.{Call, outcome, frameState, before, granulesIn, endOf, Accepts, accepted-known, accepted-leaves, verdict-of}
-use Rattle.past.specs.Sound.{sound-state-in-range, sound, frame-has-extension}
+use Rattle.past.specs.Sound.{sound-state-in-range, sound, frame-has-extension, readingOf, the-reading-stays}
 use Rattle.claims.specs.Numbers.{passed}
 
 -- ---- a frame by its header's mode, mode_extension, bitrate_index and sampling_frequency
@@ -93,10 +96,11 @@ unlisted-reads-the-same {s} {r} {mode} {extension} {index} {frequency} clean x =
 
 -- a header of the standard that an attempt reaches, and the audio data behind it
 pub the-standards-stream : (s : List ℕ) → ((j : ℕ) → getD s j 0 < 256) → (r : Reader) (byte : ℕ) → Reaches s r byte → length s ≤ longestStream
-    → 8 * byte + 48 ≤ 8 * length s → HeaderFields s byte → (known : Format) → Follows known s byte → (x : AcceptedAt s r byte known)
+    → 8 * byte + 48 ≤ 8 * length s → HeaderFields s byte → (known : Format) → Permits (known .reading) s byte → Follows known s byte
+    → (x : AcceptedAt s r byte known)
     × (let y = granulesAt s (readerAt (dataBit s byte)) (x .format) in ReadBehind s byte (y .value) (y .next))
-the-standards-stream s bytes r byte reaches short room fields known follows =
-    let x = the-standards-header s bytes r byte reaches short room fields known follows in
+the-standards-stream s bytes r byte reaches short room fields known permits follows =
+    let x = the-standards-header s bytes r byte reaches short room fields known permits follows in
     (x, reads-by-header s byte (x .format) _ (x .says) s (readerAt (dataBit s byte)))
 
 -- ---- every frame that a call accepts, whatever streams the calls before it were on
@@ -108,6 +112,8 @@ pub record ReadByItsFormat (c : Call) : Type 0 where
   pub mode-most : frameState c .format .mode ≤ 3
   pub index-most : frameState c .format .bitrate + 1 ≤ 14
   pub frequency-most : frameState c .format .samplerate ≤ 2
+  -- 02, E3: in the strict reading a pair that the standard has
+  pub pair : let f = frameState c .format in strict (f .reading) ≡ true → permitted (f .mode) (f .bitrate + 1) ≡ true
   pub reads : let f = frameState c .format in
       ReadAs replaced (c .stream) (frameState c .reader) (f .mode) extension (f .bitrate + 1) (f .samplerate) (granulesIn c) (endOf c)
 
@@ -117,6 +123,7 @@ accepted-as-the-standard {c} past ok =
     let x = frame-has-extension (c .stream) (length (c .memory)) (length (c .output)) (c .state) r (sound past) (accepted-known c ok) in
     let f = frameState c .format in
     let fit = accepted-leaves c ok .goes .ready .fit in
+    let pair = verdict-kept (ranged (c .state) r) (verdict-of c) .sound (sound past) .pair (λ e. omega (arith, fit .samplerate)) in
     let w = the-standards-bound (f .mode) (x .0) (allocationTable (f .mode) (f .bitrate + 1) (f .samplerate)) (x .1) in
     record {
       extension = x .0;
@@ -124,6 +131,7 @@ accepted-as-the-standard {c} past ok =
       mode-most = omega (arith, fit .mode);
       index-most = omega (arith, fit .bitrate);
       frequency-most = omega (arith, fit .samplerate);
+      pair = not-barred-is-permitted (f .reading) (f .bitrate) (f .mode) (fit .bitrate) (fit .mode) pair;
       reads = reads-by (c .stream) (frameState c .reader) f (f .mode) (x .0) (f .bitrate + 1) (f .samplerate) refl (omega arith) refl (rw (x .2) w);
     }
 
@@ -202,6 +210,7 @@ pub record StandardsFrame (c : Call) : Type 0 where
   pub inside : byte + frameSize (c .stream) byte ≤ length (c .stream)
   pub fields : HeaderFields (c .stream) byte
   pub says : Says (c .stream) byte (frameState c .format) (frameState c .pending)
+  pub pair : Permits (frameState c .format .reading) (c .stream) byte
   pub begins : frameState c .reader ≡ readerAt (dataBit (c .stream) byte)
   pub reads : ReadBehind (c .stream) byte (granulesIn c) (endOf c)
 
@@ -227,6 +236,14 @@ accepted-frames-are-the-standards {c} past one ok =
       inside = omega (arith, ready .there, says .size);
       fields = x .fields (omega arith);
       says = says;
+      pair = x .pair (omega arith);
       begins = begins;
       reads = rw (← begins) (reads-by-header s byte (frameState c .format) (frameState c .pending) says s (frameState c .reader));
     }
+
+-- 02, E3: opened strictly, whatever streams the calls were on, a frame is accepted only with a pair that the standard has
+pub strict-frames-have-the-standards-pairs : {c : Call} (past : Past (c .state) (c .memory)) → strict (readingOf past) ≡ true → Accepts c
+    → let f = frameState c .format in permitted (f .mode) (f .bitrate + 1) ≡ true
+strict-frames-have-the-standards-pairs {c} past chosen ok =
+    let kept = verdict-kept (ranged (c .state) (sound-state-in-range past)) (verdict-of c) .reading in
+    accepted-as-the-standard past ok .pair (ap strict (kept ∙ the-reading-stays past) ∙ chosen)

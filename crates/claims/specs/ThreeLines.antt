@@ -14,7 +14,7 @@ use Rattle.buffer.specs.Calls.{readerAt, byteAt, byteAfterOf, readOf, fieldOf, 
 use Rattle.buffer.specs.declared.BytePos.{BytePos}
 use Rattle.buffer.specs.declared.Reader.{Reader}
 use Rattle.window.specs.Output.{nought}
-use Rattle.header.specs.Readings.{plain}
+use Rattle.readings.specs.Readings.{plain}
 use Rattle.header.specs.Header.{headerOf, refusal, startOf, syncOf, seekOf}
 use Rattle.header.specs.Moves.{few-bits-stay}
 use Rattle.header.specs.declared.Format.{Format}
@@ -72,7 +72,7 @@ output-long : outputLength ≤ length (quiet outputLength)
 output-long = omega (arith, length-replicate outputLength nought)
 
 abbrev first : Call
-first = opening zeros
+first = opening plain zeros
 
 abbrev accepted : Accepts first
 accepted = zeros-accepted (quiet memoryLength) (quiet outputLength) memory-long output-long
@@ -113,7 +113,7 @@ first-line =
 
 -- the second seeks a header and finds none, and the third has nothing left
 first-begun : Begun first
-first-begun = opening-begun zeros (lit≤ tt)
+first-begun = opening-begun plain zeros (lit≤ tt)
 
 abbrev second : Call
 second = after first
@@ -156,7 +156,7 @@ called-so =
     ∙ ap {B = List Line} (λ more. FrameLine 0 (byteAt 4) 44100 192 0 188 nought 0 ∷ more)
     (one-line 313 0 second _ second-line refl ∙ ap {B = List Line} (λ more. RefusedLine 2 (byteAt 627) 598 ∷ more) (last-line 312 0 third _ third-line refl))
 
-pub three-lines : linesOf zeros ≡ threeLines
+pub three-lines : linesOf plain zeros ≡ threeLines
 unfolding shownOf calledOf
 three-lines =
     ap (λ (x : Asked). map (λ (y : Shown). y .line) (openingShown (x .skipped) (x .answer) (first .state)
@@ -166,7 +166,7 @@ three-lines =
 
 -- "frame 0 at 4 rate 44100 kbps 192 mode 0 bits 188 skipped 0", "refused 2 at 627 skipped 598", "end 1 at 627 skipped 0", each with a
 -- newline, in ASCII
-pub three-lines-text : listingOf Nothing zeros ≡
+pub three-lines-text : listingOf plain Nothing zeros ≡
     102 ∷ 114 ∷ 97 ∷ 109 ∷ 101 ∷ 32 ∷ 48 ∷ 32 ∷ 97 ∷ 116 ∷ 32 ∷ 52 ∷ 32 ∷ 114 ∷ 97 ∷ 116 ∷ 101 ∷ 32 ∷ 52 ∷ 52 ∷ 49 ∷ 48 ∷
     48 ∷ 32 ∷ 107 ∷ 98 ∷ 112 ∷ 115 ∷ 32 ∷ 49 ∷ 57 ∷ 50 ∷ 32 ∷ 109 ∷ 111 ∷ 100 ∷ 101 ∷ 32 ∷ 48 ∷ 32 ∷ 98 ∷ 105 ∷ 116 ∷ 115 ∷
     32 ∷ 49 ∷ 56 ∷ 56 ∷ 32 ∷ 115 ∷ 107 ∷ 105 ∷ 112 ∷ 112 ∷ 101 ∷ 100 ∷ 32 ∷ 48 ∷ 10 ∷
@@ -174,16 +174,16 @@ pub three-lines-text : listingOf Nothing zeros ≡
     32 ∷ 115 ∷ 107 ∷ 105 ∷ 112 ∷ 112 ∷ 101 ∷ 100 ∷ 32 ∷ 53 ∷ 57 ∷ 56 ∷ 10 ∷
     101 ∷ 110 ∷ 100 ∷ 32 ∷ 49 ∷ 32 ∷ 97 ∷ 116 ∷ 32 ∷ 54 ∷ 50 ∷ 55 ∷ 32 ∷ 115 ∷ 107 ∷ 105 ∷ 112 ∷ 112 ∷ 101 ∷ 100 ∷ 32 ∷ 48 ∷ 10 ∷ []
 unfolding flatMap frameText formatText placeText numbered decimalOf digitsIn
-three-lines-text = listing-is-its-lines zeros ∙ ap (flatMap textOf) three-lines
+three-lines-text = listing-is-its-lines plain zeros ∙ ap (flatMap textOf) three-lines
 
 -- with words behind each line
-pub three-lines-worded : listingOf Words zeros ≡
+pub three-lines-worded : listingOf plain Words zeros ≡
     letters "frame 0 at 4 rate 44100 kbps 192 mode 0 bits 188 skipped 0 (stereo)\nrefused 2 at 627 skipped 598 (no sync found)\nend 1 at 627 skipped 0 (no header can follow)\n"
 unfolding flatMap frameText formatText placeText numbered decimalOf digitsIn bracketed modeWords reasonOf
-three-lines-worded = worded-is-its-lines zeros ∙ ap (flatMap wordedOf) three-lines
+three-lines-worded = worded-is-its-lines plain zeros ∙ ap (flatMap wordedOf) three-lines
 
 -- and in one line: 1,152 samples at 44,100 a second are 0.026 seconds
-pub three-lines-summary : summaryOf zeros ≡
+pub three-lines-summary : summaryOf plain zeros ≡
     letters "1 frame, 0.03 s; 1 call refused with 2 (no sync found) from byte 627; ended with 1 (no header can follow)\n"
 unfolding summaryOf linesText framesText countedText hundredthsOf secondsText refusalsText refusalText reasonText junkText junkIn endFrom flatMap numbered decimalOf digitsIn bracketed reasonOf
 three-lines-summary = ap linesText three-lines

@@ -6,7 +6,7 @@ use mathlib.Core.List.{List, [], _∷_}
 use lib.Ieee.{Float}
 use lib.ListN.{length}
 use Rattle.synthesis.specs.Slots.{memoryLength, outputLength, quiet}
-use Rattle.header.specs.Readings.{plain}
+use Rattle.readings.specs.Readings.{plain}
 use Rattle.tables.specs.Standard.{rateOf}
 use Rattle.audio.specs.Calls.{openOf, openMemory, decodeOf, decodeMemory, decodeOutput}
 use Rattle.audio.specs.Numbers.{ends}

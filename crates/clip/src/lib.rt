@@ -28,7 +28,7 @@ pub fn start(stream: &[u8], memory: &mut [f32]) -> Playing
     ensures { λ r. ⌜ r ≡ openedOf (now (stream .entry)) (now (memory .entry)) ⌝ }
     ensures { λ _. ⌜ now (memory .exit) ≡ openMemory (now (stream .entry)) (now (memory .entry)) ⌝ }
 {
-    let reading = header::plain();
+    let reading = readings::plain();
     let opened = audio::new(stream, memory, reading);
     let state = opened.state;
     let calls = stream.len() / 2 + 2;

@@ -2,16 +2,18 @@
 -- Assumes nothing.
 use Prim.Native.Nat.{ℕ, _+_, _-_, _*_, _/_, _≤_, _<_, _^_}
 use mathlib.Core.Path.{_≡_, refl, sym}
-use mathlib.Core.Bool.{Bool, true, false, not, _&&_, _||_}
+use mathlib.Core.Bool.{Bool, true, false, cond, not, _&&_, _||_}
 use mathlib.Core.List.{List}
 use native.Mathlib.Omega.{arith}
 use lib.Dec.{eqb, leb, leb→le}
 use borrow.Author.Tests.{eqb-true, eqb-false, ne-eqb, not-false}
+use Rattle.ground.specs.Rows.{never}
 use Rattle.ground.specs.Tests.{by-test, neither}
 use Rattle.ground.specs.Upto.{below2, and-left, and-right}
 use Rattle.buffer.specs.declared.Reader.{Reader}
 use Rattle.grammar.specs.Values.{Always, always-bind, always-run}
 use Rattle.tables.specs.Standard.{kbpsOf, rateOf}
+use Rattle.readings.specs.Pairs.{barred}
 use Rattle.header.specs.declared.Ident.{Ident}
 use Rattle.header.specs.declared.Ident.the-variants.{LayerII, Refused as IdentRefused}
 use Rattle.header.specs.declared.Rates.{Rates}
@@ -21,7 +23,7 @@ use Rattle.header.specs.declared.Header.{Header}
 use Rattle.header.specs.declared.Header.the-variants.{Accepted, Refused}
 use Rattle.header.specs.declared.Start.{Start}
 use Rattle.header.specs.declared.Start.the-variants.{At, Refused as StartRefused}
-use Rattle.header.specs.Header.{identOf, ratesOf, modeOf, boundOf, checkOf, boundBy, sizeOf, leastData, mostData, restOf, byRates, byIdent, fieldsOf, differs, headerOf, startOf, byStart}
+use Rattle.header.specs.Header.{identOf, ratesOf, modeOf, boundOf, checkOf, boundBy, sizeOf, leastData, mostData, restOf, byRates, byIdent, fieldsOf, differs, afterModeOf, headerOf, startOf, byStart}
 
 -- the frame size of each bit rate and sample rate, by one computed test
 sizesAt : ℕ → ℕ → Bool
@@ -115,7 +117,17 @@ same-format known f d n =
     is : (m n : ℕ) → not (eqb m n) ≡ false → n ≡ m
     is m n e = sym (eqb-true m n (not-false _ e))
 
--- 01's ranges of a format and a data size
+-- an accepted header: neither 13 nor 6 fell after its mode
+pub after-mode : (known : Format) (b f mode : ℕ) → eqb (afterModeOf known b f mode) 0 ≡ true
+    → (barred (known .reading) b mode ≡ false) × (differs known b f mode ≡ false)
+after-mode known b f mode = go (barred (known .reading) b mode) (differs known b f mode)
+  where
+    go : (x y : Bool) → eqb (cond x 13 (cond y 6 0)) 0 ≡ true → (x ≡ false) × (y ≡ false)
+    go false false e = (refl, refl)
+    go false true e = (refl, sym e)
+    go true y e = (sym e, absurd (never e refl))
+
+-- 01's ranges of a format and a data size, and 02's pairs (E3)
 pub record Good (known f : Format) (size : ℕ) : Type 0 where
   pub samplerate : f .samplerate < 3
   pub bitrate : f .bitrate < 14
@@ -123,6 +135,8 @@ pub record Good (known f : Format) (size : ℕ) : Type 0 where
   pub bound : f .bound ≤ 32
   pub mono : f .mode ≡ 3 → f .bound ≡ 0
   pub extension : Extended (f .mode) (f .bound)
+  pub reading : f .reading ≡ known .reading
+  pub pair : barred (known .reading) (f .bitrate) (f .mode) ≡ false
   pub same : (known .samplerate ≡ 3 → ⊥) → SameFormat known f
   pub least : leastData ≤ size
   pub most : size ≤ mostData
@@ -135,9 +149,10 @@ rest-good : (known : Format) (check : Bool) (b f p : ℕ) → b < 14 → f < 3 �
 unfolding restOf Always
 rest-good known check b f p l m n =
     always-bind (λ mode. mode < 4) (GoodHeader known) modeOf _ mode-small
-    (λ mode k. by-test (Always (GoodHeader known)) (differs known b f mode) _ _ (λ _. tt)
-    (λ d. always-bind (Extended mode) (GoodHeader known) (boundOf mode check) _ (bound-extended mode check)
+    (λ mode k. by-test (Always (GoodHeader known)) (eqb (afterModeOf known b f mode) 0) _ _
+    (λ e. always-bind (Extended mode) (GoodHeader known) (boundOf mode check) _ (bound-extended mode check)
     (λ bound h.
+    let d = after-mode known b f mode e in
     let z = size-fits b f p check l m n in
     let y = bound-small mode (h .0) (h .1) in
     record {
@@ -147,10 +162,13 @@ rest-good known check b f p l m n =
       bound = rw (h .2) (y .0);
       mono = rw (h .2) (y .1);
       extension = h;
-      same = same-format known _ d;
+      reading = refl;
+      pair = d .0;
+      same = same-format known _ (d .1);
       least = z .0;
       most = z .1;
-    })))
+    }))
+    (λ _. tt))
 
 rates-good : (known : Format) (check : Bool) (r : Rates) → KnownRates r → Always (GoodHeader known) (byRates known check r)
 unfolding Always

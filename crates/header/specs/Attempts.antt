@@ -1,13 +1,12 @@
--- One header attempt by 01's table: the numbers 1 to 6 and 0, each given exactly when, in the order in which the header is read,
+-- One header attempt by 01's table: the numbers 1 to 6, 13 (02, E3) and 0, each given exactly when, in the order in which the header is read,
 -- the place where reading goes on, and the byte of the sync's FF (02, E2). From 01, "Numbers a call can give" and "From the bytes to a header". Assumes nothing.
 use Prim.Native.Nat.{ℕ, _+_, _-_, _*_, _/_, _≤_, _<_}
 use mathlib.Core.Path.{_≡_, refl, sym, ap, subst, _∙_}
 use mathlib.Core.Bool.{Bool, true, false, cond, _&&_, _||_}
 use mathlib.Core.List.{List}
 use mathlib.Core.Logic.{_⊎_, inl, inr}
-use native.Mathlib.Decide.{ℕ-discrete}
 use native.Mathlib.Omega.{arith}
-use lib.Dec.{eqb, ltb}
+use lib.Dec.{T, eqb, leb, ltb}
 use lib.ListN.{length}
 use borrow.Author.Tests.{lt-ltb, le-ltb, eq-eqb, ne-eqb, eqb-true, eqb-false, ltb-true, ltb-false}
 use Rattle.ground.specs.Tests.{by-test, both, neither, either}
@@ -20,12 +19,13 @@ use Rattle.buffer.specs.declared.BytePos.{BytePos}
 use Rattle.buffer.specs.declared.Reader.{Reader}
 use Rattle.buffer.specs.declared.Field.{Field}
 use Rattle.grammar.specs.Reads.{Reads, done, _>>=_, Ran, ran, run}
-use Rattle.header.specs.Header.{boundBy, sizeOf, differs, bySearch, seekOf, syncOf, startOf, identOf, byIdent, ratesOf, byRates, modeOf, checkOf, boundOf, restOf, fieldsOf, attempt, refusal, byStart, headerOf, headerNumber}
+use Rattle.header.specs.Header.{boundBy, sizeOf, differs, afterModeOf, bySearch, seekOf, syncOf, startOf, identOf, byIdent, ratesOf, byRates, modeOf, checkOf, boundOf, restOf, fieldsOf, attempt, refusal, byStart, headerOf, headerNumber}
 use Rattle.header.specs.Accepted.{SameFormat, same-format}
+use Rattle.readings.specs.Pairs.{barred}
 use Rattle.header.specs.declared.Ident.{Ident}
 use Rattle.header.specs.declared.Rates.{Rates}
 use Rattle.header.specs.declared.Format.{Format}
-use Rattle.header.specs.declared.Reading.{Reading}
+use Rattle.readings.specs.declared.Reading.{Reading}
 use Rattle.header.specs.declared.Header.{Header}
 use Rattle.header.specs.declared.Header.the-variants.{Accepted, Refused}
 use Rattle.header.specs.declared.Attempt.{Attempt}
@@ -139,12 +139,18 @@ pub data Attempts (s : List ℕ) (r : Reader) (known : Format) : ℕ → Attempt
   -- "sample-rate field 3"
   five : {b : BytePos} {q : Reader} → 48 ≤ left s r → Synced s r b q → BitrateGiven s q → samplerate s q .value ≡ 3
       → Attempts s r known 5 (refusal 5 b (samplerate s q .next))
+  -- 02, E3: a bit rate that the standard keeps for one mode; "after 5 and before 6; position as for 6"
+  thirteen : {b : BytePos} {q : Reader} → 48 ≤ left s r → Synced s r b q → BitrateGiven s q → (samplerate s q .value ≡ 3 → ⊥)
+      → barred (known .reading) (bitrate s q .value - 1) (mode s q .value) ≡ true
+      → Attempts s r known 13 (refusal 13 b (mode s q .next))
   -- "a header was accepted earlier, and bit rate, sample rate or mode differs"
   six : {b : BytePos} {q : Reader} → 48 ≤ left s r → Synced s r b q → BitrateGiven s q → (samplerate s q .value ≡ 3 → ⊥)
+      → barred (known .reading) (bitrate s q .value - 1) (mode s q .value) ≡ false
       → (known .samplerate ≡ 3 → ⊥) → (SameFormat known (formatBy s q (known .reading)) → ⊥)
       → Attempts s r known 6 (refusal 6 b (mode s q .next))
   -- "header accepted"
   zero : {b : BytePos} {q : Reader} → 48 ≤ left s r → Synced s r b q → BitrateGiven s q → (samplerate s q .value ≡ 3 → ⊥)
+      → barred (known .reading) (bitrate s q .value - 1) (mode s q .value) ≡ false
       → ((known .samplerate ≡ 3 → ⊥) → SameFormat known (formatBy s q (known .reading)))
       → Attempts s r known 0 (record { header = Accepted (formatBy s q (known .reading)) (dataSize s q); sync = b; next = afterCheck s q })
 
@@ -160,6 +166,9 @@ module _ (s : List ℕ) (q : Reader) (known : Format) where
   abbrev other : Bool
   other = differs known (formatBy s q (known .reading) .bitrate) (formatBy s q (known .reading) .samplerate) (formatBy s q (known .reading) .mode)
 
+  abbrev kept : Bool
+  kept = barred (known .reading) (bitrate s q .value - 1) (mode s q .value)
+
   -- the check word is passed
   check-course : (check : Bool) (x : ℕ) (g : ℕ → Header) (r : Reader)
       → run (checkOf check >>= (λ _. done x) >>= (λ b. done (g b))) s r ≡ ran (g x) (cond check (fieldOf s r 16 .next) r)
@@ -167,12 +176,22 @@ module _ (s : List ℕ) (q : Reader) (known : Format) where
   check-course true x g r = refl
   check-course false x g r = refl
 
+  -- 13, then 6, then accepted
+  in-turn : (k d : Bool) (accepted : Ran Header) (r : Reader) → let n : ℕ = cond k 13 (cond d 6 0) in
+      cond (eqb n 0) accepted (ran (Refused n) r) ≡ cond k (ran (Refused 13) r) (cond d (ran (Refused 6) r) accepted)
+  in-turn true d accepted r = refl
+  in-turn false true accepted r = refl
+  in-turn false false accepted r = refl
+
   rest-course : run (restOf known (checked s q) (bitrate s q .value - 1) (samplerate s q .value) (padding s q .value)) s (padding s q .next)
-      ≡ cond other (ran (Refused 6) (mode s q .next)) (ran (Accepted (formatBy s q (known .reading)) (dataSize s q)) (afterCheck s q))
+      ≡ cond kept (ran (Refused 13) (mode s q .next))
+      (cond other (ran (Refused 6) (mode s q .next)) (ran (Accepted (formatBy s q (known .reading)) (dataSize s q)) (afterCheck s q)))
   unfolding restOf modeOf boundOf run _>>=_
   rest-course =
-      push (λ (m : Reads Header). run m s (mode s q .next)) other _ _
-      ∙ ap (cond other (ran (Refused 6) (mode s q .next))) (check-course (checked s q) _ _ (flags s q .next))
+      let n : ℕ = cond kept 13 (cond other 6 0) in
+      push (λ (m : Reads Header). run m s (mode s q .next)) (eqb n 0) _ _
+      ∙ ap (λ (x : Ran Header). cond (eqb n 0) x (ran (Refused n) (mode s q .next))) (check-course (checked s q) _ _ (flags s q .next))
+      ∙ in-turn kept other _ (mode s q .next)
 
   rates-course : run (ratesOf >>= byRates known (checked s q)) s (protection s q .next)
       ≡ cond noBitrate (ran (Refused 4) (bitrate s q .next))
@@ -260,8 +279,9 @@ module _ (s : List ℕ) (r : Reader) (short : length s ≤ longestStream) (near 
             (λ t. let n = neither (eqb (bitrate s q .value) 0) _ t in
             let u : BitrateGiven s q = record { ident = l; not-free = eqb-false _ _ (n .0); not-forbidden = eqb-false _ _ (n .1) } in
             by-test S (eqb (samplerate s q .value) 3) _ _ (λ f. five room y u (eqb-true _ _ f))
-            (λ f. by-test S (other s q known) _ _ (λ d. six room y u (eqb-false _ _ f) (other-is-known s q known d) (other-is-not-same s q known d))
-            (λ d. zero room y u (eqb-false _ _ f) (same-format known (formatBy s q (known .reading)) d)))))
+            (λ f. by-test S (kept s q known) _ _ (thirteen room y u (eqb-false _ _ f))
+            (λ k. by-test S (other s q known) _ _ (λ d. six room y u (eqb-false _ _ f) k (other-is-known s q known d) (other-is-not-same s q known d))
+            (λ d. zero room y u (eqb-false _ _ f) k (same-format known (formatBy s q (known .reading)) d))))))
 
     attempt-stands : Stands (headerOf s r known)
     unfolding Stands headerOf
@@ -298,7 +318,8 @@ module _ (s : List ℕ) (r : Reader) (short : length s ≤ longestStream) (near 
         → headerOf s r known
         ≡ attempt b
         (cond (eqb (samplerate s q .value) 3) (ran (Refused 5) (samplerate s q .next))
-        (cond (other s q known) (ran (Refused 6) (mode s q .next)) (ran (Accepted (formatBy s q (known .reading)) (dataSize s q)) (afterCheck s q))))
+        (cond (kept s q known) (ran (Refused 13) (mode s q .next))
+        (cond (other s q known) (ran (Refused 6) (mode s q .next)) (ran (Accepted (formatBy s q (known .reading)) (dataSize s q)) (afterCheck s q)))))
     rated-course {b} {q} room y u =
         layer-course room y (u .ident)
         ∙ ap (attempt b)
@@ -310,34 +331,42 @@ module _ (s : List ℕ) (r : Reader) (short : length s ≤ longestStream) (near 
     attempt-only (three {q = q} room y n) = (rw (after-sync room y, fields-course s q known, not-layer s q known n), refl)
     attempt-only (four {q = q} room y l b) = (rw (layer-course room y l, rates-course s q known, no-bitrate s q known b), refl)
     attempt-only (five {q = q} room y u f) = (rw (rated-course room y u, eq-eqb _ _ f), refl)
-    attempt-only (six {q = q} room y u f known-one differ) =
+    attempt-only (thirteen {q = q} room y u f k) = (rw (rated-course room y u, ne-eqb _ _ f, k), refl)
+    attempt-only (six {q = q} room y u f k known-one differ) =
         let d = is-true (other s q known) (λ d. differ (same-format known (formatBy s q (known .reading)) d known-one)) in
-        (rw (rated-course room y u, ne-eqb _ _ f, d), refl)
-    attempt-only (zero {q = q} room y u f same) =
+        (rw (rated-course room y u, ne-eqb _ _ f, k, d), refl)
+    attempt-only (zero {q = q} room y u f k same) =
         let d = is-false (other s q known) (λ d. other-is-not-same s q known d (same (other-is-known s q known d))) in
-        (rw (rated-course room y u, ne-eqb _ _ f, d), refl)
+        (rw (rated-course room y u, ne-eqb _ _ f, k, d), refl)
 
     pub attempt-table : TableOf (λ (x : Attempt). headerNumber (x .header)) (headerOf s r known) (Attempts s r known)
     unfolding Stands
     attempt-table = record { holds = attempt-stands; only = attempt-only }
 
 -- an attempt gives no other number
-pub attempt-number : {s : List ℕ} {r : Reader} {known : Format} {n : ℕ} {x : Attempt} → Attempts s r known n x → n ≤ 6
-attempt-number (one l) = omega arith
-attempt-number (two room o l) = omega arith
-attempt-number (three room y n) = omega arith
-attempt-number (four room y l b) = omega arith
-attempt-number (five room y u f) = omega arith
-attempt-number (six room y u f k d) = omega arith
-attempt-number (zero room y u f d) = omega arith
+abbrev pub attemptGives : ℕ → Bool
+attemptGives n = leb n 6 || eqb n 13
 
--- the first header is never refused with 6
-first-is-not-six : {s : List ℕ} {r : Reader} {known : Format} {x : Attempt} → known .samplerate ≡ 3 → Attempts s r known 6 x → ⊥
-first-is-not-six e (six room y u f k d) = k e
+pub attempt-number : {s : List ℕ} {r : Reader} {known : Format} {n : ℕ} {x : Attempt} → Attempts s r known n x → T (attemptGives n)
+attempt-number (one l) = tt
+attempt-number (two room o l) = tt
+attempt-number (three room y n) = tt
+attempt-number (four room y l b) = tt
+attempt-number (five room y u f) = tt
+attempt-number (thirteen room y u f k) = tt
+attempt-number (six room y u f k h d) = tt
+attempt-number (zero room y u f k d) = tt
 
-pub first-number : {s : List ℕ} {r : Reader} {known : Format} {n : ℕ} {x : Attempt} → known .samplerate ≡ 3 → Attempts s r known n x → n ≤ 5
-first-number {s} {r} {known} {n} {x} e t = go (attempt-number t) (ℕ-discrete n 6)
-  where
-    go : n ≤ 6 → Dec (n ≡ 6) → n ≤ 5
-    go l (yes p) = absurd (first-is-not-six e (subst (λ (k : ℕ). Attempts s r known k x) p t))
-    go l (no p) = omega arith
+-- and 6 never as the first: "opening can give it [13], just as 2 to 5"
+abbrev pub firstGives : ℕ → Bool
+firstGives n = leb n 5 || eqb n 13
+
+pub first-number : {s : List ℕ} {r : Reader} {known : Format} {n : ℕ} {x : Attempt} → known .samplerate ≡ 3 → Attempts s r known n x → T (firstGives n)
+first-number e (one l) = tt
+first-number e (two room o l) = tt
+first-number e (three room y n) = tt
+first-number e (four room y l b) = tt
+first-number e (five room y u f) = tt
+first-number e (thirteen room y u f k) = tt
+first-number e (six room y u f k h d) = absurd (h e)
+first-number e (zero room y u f k d) = tt

@@ -16,6 +16,7 @@ use Rattle.buffer.specs.declared.Sync.{Sync}
 use Rattle.buffer.specs.declared.Sync.the-variants.{Found, Missing, Refused as SyncRefused}
 use Rattle.grammar.specs.Reads.{Reads, done, ask, _>>=_, Ran, run}
 use Rattle.tables.specs.Standard.{kbpsOf, rateOf}
+use Rattle.readings.specs.Pairs.{barred}
 use Rattle.header.specs.declared.Ident.{Ident}
 use Rattle.header.specs.declared.Ident.the-variants.{LayerII, Refused as IdentRefused}
 use Rattle.header.specs.declared.Rates.{Rates}
@@ -108,14 +109,19 @@ differs known bitrate samplerate mode =
     not (eqb (known .samplerate) 3)
     && (not (eqb (known .bitrate) bitrate) || not (eqb (known .samplerate) samplerate) || not (eqb (known .mode) mode))
 
--- 6 "after the mode"; else the header is accepted, with its format and its data size
+-- the numbers that fall "after the mode": 13 "before 6", then 6; or 0
+abbrev pub afterModeOf : Format → ℕ → ℕ → ℕ → ℕ
+afterModeOf known bitrate samplerate mode = cond (barred (known .reading) bitrate mode) 13 (cond (differs known bitrate samplerate mode) 6 0)
+
+-- with 0 the header is accepted, with its format and its data size
 unfoldable pub restOf : Format → Bool → ℕ → ℕ → ℕ → Reads Header
 restOf known check bitrate samplerate padding =
-    modeOf >>= λ mode. cond (differs known bitrate samplerate mode) (done (Refused 6))
+    modeOf >>= λ mode. cond (eqb (afterModeOf known bitrate samplerate mode) 0)
     (boundOf mode check >>= λ bound.
     done
     (Accepted (record { reading = known .reading; samplerate = samplerate; bitrate = bitrate; mode = mode; bound = bound })
     (sizeOf bitrate samplerate padding check)))
+    (done (Refused (afterModeOf known bitrate samplerate mode)))
 
 abbrev pub byRates : Format → Bool → Rates → Reads Header
 byRates known check (Known bitrate samplerate padding) = restOf known check bitrate samplerate padding

@@ -1,4 +1,3 @@
-pub mod Readings
 pub mod Header
 pub mod Accepted
 pub mod Moves

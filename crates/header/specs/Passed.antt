@@ -25,7 +25,7 @@ use Rattle.header.specs.declared.Format.{Format}
 use Rattle.header.specs.declared.Start.{Start}
 use Rattle.header.specs.declared.Start.the-variants.{At, Refused as StartRefused}
 use Rattle.header.specs.Header.{bySearch, seekOf, syncOf, byHas, startOf, byStart, headerOf}
-use Rattle.header.specs.Attempts.{past, elevenBits, from, stop, NoPair, Synced, in-place, searched, Attempts, one, two, three, four, five, six, zero}
+use Rattle.header.specs.Attempts.{past, elevenBits, from, stop, NoPair, Synced, in-place, searched, Attempts, one, two, three, four, five, thirteen, six, zero}
 
 -- ---- the sync that an attempt met
 
@@ -133,8 +133,9 @@ attempt-passed {s} {r} short near (two room not none) =
 attempt-passed {s} {r} short near (three room y _) = met-passed 3 (λ e. omega arith) (λ e. omega arith) (sync-is-ff s r short near room y)
 attempt-passed {s} {r} short near (four room y _ _) = met-passed 4 (λ e. omega arith) (λ e. omega arith) (sync-is-ff s r short near room y)
 attempt-passed {s} {r} short near (five room y _ _) = met-passed 5 (λ e. omega arith) (λ e. omega arith) (sync-is-ff s r short near room y)
-attempt-passed {s} {r} short near (six room y _ _ _ _) = met-passed 6 (λ e. omega arith) (λ e. omega arith) (sync-is-ff s r short near room y)
-attempt-passed {s} {r} short near (zero room y _ _ _) = met-passed 0 (λ e. omega arith) (λ e. omega arith) (sync-is-ff s r short near room y)
+attempt-passed {s} {r} short near (thirteen room y _ _ _) = met-passed 13 (λ e. omega arith) (λ e. omega arith) (sync-is-ff s r short near room y)
+attempt-passed {s} {r} short near (six room y _ _ _ _ _) = met-passed 6 (λ e. omega arith) (λ e. omega arith) (sync-is-ff s r short near room y)
+attempt-passed {s} {r} short near (zero room y _ _ _ _) = met-passed 0 (λ e. omega arith) (λ e. omega arith) (sync-is-ff s r short near room y)
 
 -- ---- for the code, whatever was asked: the sync lies at the aligned start or behind it, and not past the stream's end unless the start does
 

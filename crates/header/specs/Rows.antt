@@ -1,5 +1,5 @@
 -- A header's numbers, computed: 01's rows 2 to 5, the data sizes of headers at the start of a stream; every bound; every data
--- size; and what is passed over.
+-- size; what is passed over; and the strict reading's 13.
 -- Assumes nothing.
 use Prim.Native.Nat.{ℕ}
 use mathlib.Core.Path.{_≡_, refl}
@@ -10,11 +10,11 @@ use Rattle.ground.specs.First.{firstFrom}
 use Rattle.buffer.specs.Bits.{bitAt, bitsValue}
 use Rattle.buffer.specs.Calls.{readerAt, readOf, fieldOf, hasOf, skipBytesOf, searchOf}
 use Rattle.grammar.specs.Reads.{_>>=_, run}
-use Rattle.header.specs.Readings.{plain}
+use Rattle.readings.specs.Readings.{plain, readingBy}
 use Rattle.header.specs.declared.Format.{Format}
 use Rattle.header.specs.declared.Header.{Header}
 use Rattle.header.specs.declared.Header.the-variants.{Accepted, Refused}
-use Rattle.header.specs.Header.{boundBy, passedBy, headerOf, startOf, syncOf, seekOf, fieldsOf, identOf, ratesOf, restOf, modeOf, boundOf, checkOf, sizeOf}
+use Rattle.header.specs.Header.{boundBy, passedBy, headerNumber, headerOf, startOf, syncOf, seekOf, fieldsOf, identOf, ratesOf, restOf, modeOf, boundOf, checkOf, sizeOf}
 
 -- no header yet
 abbrev pub unknown : Format
@@ -68,3 +68,34 @@ pub passes : map (passedIn 0)
 unfolding headerOf startOf syncOf seekOf searchOf hasOf skipBytesOf fieldOf readOf bitsValue bitAt firstFrom run _>>=_ fieldsOf identOf ratesOf restOf
     modeOf boundOf checkOf sizeOf
 passes = refl
+
+-- 02, E3: an attempt from byte 0 in a reading, with a format known or none: its number, and the bit where it ends. With so many choices
+abbrev attempted : ℕ → Format → List ℕ → List ℕ
+attempted choices known s =
+    let t = headerOf s (readerAt 0) (record { reading = readingBy choices; samplerate = known .samplerate; bitrate = known .bitrate; mode = known .mode; bound = known .bound }) in
+    headerNumber (t .header) ∷ t .next .at .0 ∷ []
+
+-- 64 kbps, 44,100 Hz, mono
+abbrev spoken : Format
+spoken = record { reading = plain; samplerate = 0; bitrate = 3; mode = 3; bound = 0 }
+
+-- strict: 320 kbps in mono is a 13, 26 bits from the FF, and no other mode's; 32 kbps is one in stereo, joint stereo and two channels, and not in
+-- mono. A 6 ends at the same bit, and 13 comes before it
+pub strict-pairs : map (λ mode. attempted 1 unknown (0xFF ∷ 0xFD ∷ 0xD0 ∷ mode ∷ 0 ∷ 0 ∷ [])) (0xC0 ∷ 0x80 ∷ 0x40 ∷ 0x00 ∷ [])
+    ++ map (λ mode. attempted 1 unknown (0xFF ∷ 0xFD ∷ 0x10 ∷ mode ∷ 0 ∷ 0 ∷ [])) (0xC0 ∷ 0x80 ∷ 0x40 ∷ 0x00 ∷ [])
+    ++ map (λ rate. attempted 1 spoken (0xFF ∷ 0xFD ∷ rate ∷ 0xC0 ∷ 0 ∷ 0 ∷ [])) (0xD0 ∷ 0x30 ∷ [])
+    ≡ (13 ∷ 26 ∷ []) ∷ (0 ∷ 32 ∷ []) ∷ (0 ∷ 32 ∷ []) ∷ (0 ∷ 32 ∷ [])
+    ∷ (0 ∷ 32 ∷ []) ∷ (13 ∷ 26 ∷ []) ∷ (13 ∷ 26 ∷ []) ∷ (13 ∷ 26 ∷ [])
+    ∷ (13 ∷ 26 ∷ []) ∷ (6 ∷ 26 ∷ []) ∷ []
+unfolding headerOf startOf syncOf seekOf searchOf hasOf skipBytesOf fieldOf readOf bitsValue bitAt firstFrom run _>>=_ fieldsOf identOf ratesOf restOf
+    modeOf boundOf checkOf sizeOf
+strict-pairs = refl
+
+-- a header cut after its third byte is stereo: 32 kbps is a 13, 320 kbps is accepted. Read plainly, 320 kbps in mono is accepted, and a 6
+-- where another format is known
+pub strict-cut : map (λ rate. attempted 1 unknown (0 ∷ 0 ∷ 0 ∷ 0xFF ∷ 0xFD ∷ rate ∷ [])) (0x10 ∷ 0xD0 ∷ [])
+    ++ map (λ known. attempted 0 known (0xFF ∷ 0xFD ∷ 0xD0 ∷ 0xC0 ∷ 0 ∷ 0 ∷ [])) (unknown ∷ spoken ∷ [])
+    ≡ (13 ∷ 48 ∷ []) ∷ (0 ∷ 48 ∷ []) ∷ (0 ∷ 32 ∷ []) ∷ (6 ∷ 26 ∷ []) ∷ []
+unfolding headerOf startOf syncOf seekOf searchOf hasOf skipBytesOf fieldOf readOf bitsValue bitAt firstFrom run _>>=_ fieldsOf identOf ratesOf restOf
+    modeOf boundOf checkOf sizeOf
+strict-cut = refl

@@ -1,15 +1,16 @@
-// One header attempt: audio.rs's `decode_header`, with 01's numbers 1 to 6 in place of a size of 0.
+// One header attempt: audio.rs's `decode_header`, with 01's numbers 1 to 6, and 13 (02, E3), in place of a size of 0.
 use buffer::BytePos;
 use buffer::Field;
 use buffer::Holds;
 use buffer::Reader;
 use buffer::Skipped;
 use buffer::Sync;
+use readings::MODE_MONO;
+use readings::Reading;
 ghost use mathlib.Core.Path.{_≡_};
 ghost use Prim.Native.Nat.{_<_};
 ghost use Rattle.grammar.specs.Reads.{run, ran};
-ghost use Rattle.header.specs.Readings.{plain as plainReading, readingBy};
-ghost use Rattle.header.specs.Header.{identOf, ratesOf, modeOf, boundBy, checkOf, boundOf, sizeOf, differs, restOf, byIdent, fieldsOf, unsoughtOf, seekOf, syncOf, startOf, headerOf};
+ghost use Rattle.header.specs.Header.{identOf, ratesOf, modeOf, boundBy, checkOf, boundOf, sizeOf, differs, afterModeOf, restOf, byIdent, fieldsOf, unsoughtOf, seekOf, syncOf, startOf, headerOf};
 
 const FRAME_SYNC: u32 = 0x7ff;
 
@@ -19,34 +20,10 @@ const LAYER_II: u32 = 2;
 
 const MODE_JOINT_STEREO: u32 = 1;
 
-const MODE_MONO: u32 = 3;
-
 // The bytes of data that an accepted header can announce.
 pub const LEAST_DATA: usize = 90;
 
 pub const MOST_DATA: usize = 1725;
-
-// How a decoder reads: chosen at its opening, and kept. Each choice is a bit; specs/Readings says what it is for. Until its
-// request lands it changes nothing.
-pub struct Reading {
-    pub choices: u32,
-}
-
-// 01's decoder: no choice is taken.
-pub fn plain() -> Reading
-    ensures { λ r. ⌜ r ≡ plainReading ⌝ }
-{
-    Reading { choices: 0 }
-}
-
-// The reading that a caller asks for: what is no choice yet is dropped.
-pub fn reading_by(choices: u32) -> Reading
-    ensures { λ r. ⌜ r ≡ readingBy choices ⌝ }
-{
-    Reading {
-        choices: choices % 32,
-    }
-}
 
 // What frames are read by: the choices of the opening, and the format that the first accepted header fixes. Sample-rate code 3
 // means that there is none yet.
@@ -268,6 +245,20 @@ fn other_format(known: Format, bitrate: usize, samplerate: usize, mode: u32) -> 
         & ((known.bitrate != bitrate) | (known.samplerate != samplerate) | (known.mode != mode))
 }
 
+// 13, else 6, else 0.
+fn refused_after_mode(known: Format, bitrate: usize, samplerate: usize, mode: u32) -> u32
+    requires { ⌜ bitrate < 14 ⌝ }
+    ensures { λ r. ⌜ r ≡ afterModeOf known bitrate samplerate mode ⌝ }
+{
+    if readings::barred(known.reading, bitrate, mode) {
+        return 13;
+    }
+    if other_format(known, bitrate, samplerate, mode) {
+        return 6;
+    }
+    0
+}
+
 pub struct HeaderAt {
     pub header: Header,
     pub next: Reader,
@@ -288,14 +279,15 @@ fn read_rest(
     let reading = known.reading;
     let m = read_mode(s, reader);
     let mode = m.value;
-    let one = m.next;
-    if other_format(known, bitrate, samplerate, mode) {
+    let after = m.next;
+    let number = refused_after_mode(known, bitrate, samplerate, mode);
+    if number != 0 {
         return HeaderAt {
-            header: Header::Refused(6),
-            next: one,
+            header: Header::Refused(number),
+            next: after,
         };
     }
-    let b = read_bound(s, one, mode, check);
+    let b = read_bound(s, after, mode, check);
     let next = b.next;
     let size = data_size(bitrate, samplerate, padding, check);
     HeaderAt {

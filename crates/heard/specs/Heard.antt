@@ -15,7 +15,8 @@ use Rattle.synthesis.specs.Slots.{memoryLength, outputLength, quiet}
 use Rattle.buffer.specs.Calls.{left}
 use Rattle.tables.specs.Standard.{rateOf}
 use Rattle.finite.specs.Within.{Within}
-use Rattle.header.specs.Readings.{plain}
+use Rattle.readings.specs.Readings.{plain}
+use Rattle.readings.specs.declared.Reading.{Reading}
 use Rattle.audio.specs.Calls.{openOf, openMemory}
 use Rattle.audio.specs.Numbers.{ends, answerNumber}
 use Rattle.state.specs.declared.Audio.{Audio}
@@ -33,12 +34,12 @@ use Rattle.verdict.specs.VerdictLaws.{Called}
 
 -- ---- one call after the other
 
--- the call that follows on the same stream, and the first after an opening, as in clipOf
+-- the call that follows on the same stream, and the first after an opening, as in clipOf, which reads plainly
 abbrev pub after : Call → Call
 after c = record { stream = c .stream; memory = newMemory c; output = newOutput c; state = outcome c .state }
 
-abbrev pub opening : List ℕ → Call
-opening s = record { stream = s; memory = openMemory s (quiet memoryLength); output = quiet outputLength; state = openOf plain s (quiet memoryLength) .state }
+abbrev pub opening : Reading → List ℕ → Call
+opening r s = record { stream = s; memory = openMemory s (quiet memoryLength); output = quiet outputLength; state = openOf r s (quiet memoryLength) .state }
 
 abbrev heardFrom : ℕ → Call → List Heard
 heardFrom calls c = heardOf calls (c .stream) (c .memory) (c .output) (c .state)
@@ -50,8 +51,8 @@ heardAt c = record { rate = rateOf (outcome c .state .format .samplerate); sampl
 quiet-length : (n : ℕ) → length (quiet n) ≡ n
 quiet-length n = length-replicate n (fin false 0 (pos 0))
 
-pub opening-past : (s : List ℕ) → length s ≤ longestStream → Past (opening s .state) (opening s .memory)
-opening-past s short = opened plain s (quiet memoryLength) short (omega (arith, quiet-length memoryLength))
+pub opening-past : (r : Reading) (s : List ℕ) → length s ≤ longestStream → Past (opening r s .state) (opening r s .memory)
+opening-past r s short = opened r s (quiet memoryLength) short (omega (arith, quiet-length memoryLength))
 
 -- ---- the calls are not cut short
 
@@ -69,16 +70,16 @@ same-heard (RefusedAnswer n) a o more others e =
 abbrev pub Begun : Call → Type 0
 Begun c = Called (c .stream) (length (c .memory)) (length (c .output)) (c .state)
 
-pub opening-begun : (s : List ℕ) → length s ≤ longestStream → Begun (opening s)
-opening-begun s short =
+pub opening-begun : (r : Reading) (s : List ℕ) → length s ≤ longestStream → Begun (opening r s)
+opening-begun r s short =
     record {
       room =
           record {
             short = short;
-            memory-long = memory-kept-long (opening-past s short);
+            memory-long = memory-kept-long (opening-past r s short);
             output-long = omega (arith, quiet-length outputLength);
           };
-      within = opening-is-in-range plain s (quiet memoryLength);
+      within = opening-is-in-range r s (quiet memoryLength);
     }
 
 module _ (c : Call) (b : Begun c) where
@@ -109,8 +110,8 @@ pub every-frame : (s : List ℕ) (more : ℕ) → length s ≤ longestStream
 unfolding clipOf
 every-frame s more short =
     let e : suc (length s / 2 + 1) ≡ length s / 2 + 2 = omega arith in
-    comes-to-rest (length s / 2 + 1) (length s / 2 + 2 + more) (opening s) (omega arith) (opening-begun s short) (omega arith)
-    ∙ ap (λ (calls : ℕ). heardFrom calls (opening s)) e
+    comes-to-rest (length s / 2 + 1) (length s / 2 + 2 + more) (opening plain s) (omega arith) (opening-begun plain s short) (omega arith)
+    ∙ ap (λ (calls : ℕ). heardFrom calls (opening plain s)) e
 
 -- ---- what every frame of a clip has
 
@@ -143,9 +144,9 @@ module _ (Q : Call → Type 0) (P : Heard → Type 0) (on : (c : Call) → Q c �
       let rest = along calls (after c) (on c q) in
       by-call (Every P) calls c (λ i d l. absurd (omega arith)) rest (λ ok. first-of P (heardAt c) (heardFrom calls (after c)) (frame c q ok) rest)
 
-  pub in-clip : (s : List ℕ) → Q (opening s) → Every P (clipOf s)
+  pub in-clip : (s : List ℕ) → Q (opening plain s) → Every P (clipOf s)
   unfolding clipOf
-  in-clip s q = along (length s / 2 + 2) (opening s) q
+  in-clip s q = along (length s / 2 + 2) (opening plain s) q
 
 -- "every decoded frame": 2,304 samples each
 pub frame-length : (s : List ℕ) (i : ℕ) (d : Heard) → i < length (clipOf s) → length (getD (clipOf s) i d .samples) ≡ outputLength
@@ -176,7 +177,7 @@ at-one-rate (suc calls) c =
 -- so the one rate that "the 44-byte header" can say is that of every frame
 pub one-rate : (s : List ℕ) (i : ℕ) (d : Heard) → i < length (clipOf s) → getD (clipOf s) i d .rate ≡ rateIn (clipOf s)
 unfolding clipOf
-one-rate s = at-one-rate (length s / 2 + 2) (opening s)
+one-rate s = at-one-rate (length s / 2 + 2) (opening plain s)
 
 -- ---- numbers, all of them
 
@@ -185,7 +186,7 @@ pub heard-finite : (s : List ℕ) → length s ≤ longestStream → (i : ℕ) (
     → (j : ℕ) → j < outputLength → Within 8259553 (getD (getD (clipOf s) i d .samples) j nan)
 heard-finite s short =
     in-clip (λ c. Past (c .state) (c .memory)) (λ x. (j : ℕ) → j < outputLength → Within 8259553 (getD (x .samples) j nan))
-    (λ c p. decoded p (c .stream) (c .output)) each s (opening-past s short)
+    (λ c p. decoded p (c .stream) (c .output)) each s (opening-past plain s short)
   where
     each : (c : Call) → Past (c .state) (c .memory) → Accepts c → (j : ℕ) → j < outputLength → Within 8259553 (getD (newOutput c) j nan)
     each c p ok j l =

@@ -1,14 +1,14 @@
 -- The lines of the lister. From 01, "Table of proved examples" (The lister). Assumes nothing.
 use Prim.Native.Nat.{ℕ, zero, suc, _+_, _-_, _/_}
-use mathlib.Core.Bool.{Bool, true, false, cond, _&&_}
+use mathlib.Core.Bool.{Bool, true, false, cond, _&&_, _||_}
 use mathlib.Core.List.{List, [], _∷_, _++_, map}
-use lib.Dec.{leb, ltb}
+use lib.Dec.{eqb, leb, ltb}
 use lib.Ieee.{Float}
 use lib.ListN.{length}
 use Rattle.buffer.specs.Calls.{bytePosOf, byteAfterOf}
 use Rattle.buffer.specs.declared.BytePos.{BytePos}
 use Rattle.synthesis.specs.Slots.{memoryLength, outputLength, quiet}
-use Rattle.header.specs.Readings.{plain}
+use Rattle.readings.specs.declared.Reading.{Reading}
 use Rattle.tables.specs.Standard.{kbpsOf, rateOf}
 use Rattle.verdict.specs.declared.Heading.{Heading}
 use Rattle.verdict.specs.declared.Heading.the-variants.{Known, Refused as HeadingRefused}
@@ -73,9 +73,9 @@ shownFrom (suc calls) s memory output carried a =
     let o = decodeOutput s memory output a in
     shown (x .line) o ∷ cond (isLast (x .line)) [] (shownFrom calls s m o 0 (x .state))
 
--- "an opening refused with 2 to 5 prints it too"
+-- "an opening refused with 2 to 5 prints it too". 02, E3: with 13 "just as 2 to 5"
 abbrev pub openingTold : ℕ → Bool
-openingTold n = leb 2 n && leb n 5
+openingTold n = (leb 2 n && leb n 5) || eqb n 13
 
 -- "number and byte position afterwards", and what it passed over; an opening refused with 1 is told by the first call
 abbrev pub openingShown : ℕ → Heading → Audio → List Shown
@@ -87,10 +87,10 @@ abbrev pub carriedBy : ℕ → Heading → ℕ
 carriedBy skipped Known = skipped
 carriedBy skipped (HeadingRefused n) = 0
 
--- from a fresh opening; on n bytes call n/2 + 2 and all later ones give 1 or 7 (claims, `settles`)
-unfoldable pub calledOf : List ℕ → List Shown
-calledOf s =
-    let opened = openOf plain s (quiet memoryLength) in
+-- from a fresh opening in this reading; on n bytes call n/2 + 2 and all later ones give 1 or 7 (claims, `settles`)
+unfoldable pub calledOf : Reading → List ℕ → List Shown
+calledOf c s =
+    let opened = openOf c s (quiet memoryLength) in
     let carried = carriedBy (opened .skipped) (opened .answer) in
     openingShown (opened .skipped) (opened .answer) (opened .state)
     ++ shownFrom (length s / 2 + 2) s (openMemory s (quiet memoryLength)) (quiet outputLength) carried (opened .state)
@@ -100,12 +100,12 @@ abbrev pub tooLong : List ℕ → Bool
 tooLong s = ltb 65536 (length s)
 
 -- "more: the one line `long`"
-unfoldable pub shownOf : List ℕ → List Shown
-shownOf s = cond (tooLong s) (shown Long [] ∷ []) (calledOf s)
+unfoldable pub shownOf : Reading → List ℕ → List Shown
+shownOf c s = cond (tooLong s) (shown Long [] ∷ []) (calledOf c s)
 
 abbrev pub linesIn : List Shown → List Line
 linesIn = map (λ (x : Shown). x .line)
 
 -- the whole listing of a stream
-abbrev pub linesOf : List ℕ → List Line
-linesOf s = linesIn (shownOf s)
+abbrev pub linesOf : Reading → List ℕ → List Line
+linesOf c s = linesIn (shownOf c s)

@@ -5,6 +5,7 @@ use mathlib.Core.Bool.{cond}
 use mathlib.Core.List.{List, [], _++_}
 use lib.Dec.{eqb}
 use lib.ListN.{length}
+use Rattle.readings.specs.declared.Reading.{Reading}
 use Rattle.listing.specs.Lines.{tooLong, linesOf}
 use Rattle.listing.specs.Tally.{firstOf, ratesIn, bytesIn, endIn, junkIn}
 use Rattle.listing.specs.Text.{newline, numbered, bracketed}
@@ -49,11 +50,12 @@ unfoldable pub refusalsText : List Line → ℕ → ℕ → List ℕ
 refusalsText lines n zero = []
 refusalsText lines n (suc more) = refusalText n (length (bytesIn n lines)) (firstOf (bytesIn n lines)) ++ refusalsText lines (suc n) more
 
--- 2 to 6 are the numbers of a call that was refused and is not the end
+-- every number that a tally has a place for, 2 to 15, so that no refusal is left out. 2 to 6 and 13 are those of a call that was refused and
+-- is not the end
 unfoldable pub linesText : List Line → List ℕ
 linesText lines =
     framesText (length (ratesIn lines)) (firstOf (ratesIn lines))
-    ++ (junkText (junkIn lines) ++ (refusalsText lines 2 5 ++ (reasonText (letters "; ended with ") (endIn lines) ++ newline)))
+    ++ (junkText (junkIn lines) ++ (refusalsText lines 2 14 ++ (reasonText (letters "; ended with ") (endIn lines) ++ newline)))
 
-unfoldable pub summaryOf : List ℕ → List ℕ
-summaryOf s = cond (tooLong s) (letters "too long: 65,536 bytes at most\n") (linesText (linesOf s))
+unfoldable pub summaryOf : Reading → List ℕ → List ℕ
+summaryOf c s = cond (tooLong s) (letters "too long: 65,536 bytes at most\n") (linesText (linesOf c s))

@@ -8,6 +8,7 @@ use lib.Ieee.{Float, binary64, isNan, toBits}
 use lib.ListN.{length}
 use Rattle.io.specs.Digits.{digits}
 use Rattle.buffer.specs.declared.BytePos.{BytePos}
+use Rattle.readings.specs.declared.Reading.{Reading}
 use Rattle.listing.specs.Fnv.{sumOf}
 use Rattle.listing.specs.Lines.{Shown, shownOf}
 use Rattle.listing.specs.Words.{letters, lineWords}
@@ -125,5 +126,5 @@ textsOf behind [] = []
 textsOf behind (x ∷ xs) = textBy behind (x .line) (x .samples) ++ textsOf behind xs
 
 -- all that is written of a stream
-unfoldable pub listingOf : Behind → List ℕ → List ℕ
-listingOf behind s = textsOf behind (shownOf s)
+unfoldable pub listingOf : Reading → Behind → List ℕ → List ℕ
+listingOf c behind s = textsOf behind (shownOf c s)

@@ -39,4 +39,5 @@ short-reason n =
     (λ _. by-test Short (eqb n 4) _ _ (λ _. lit≤ tt)
     (λ _. by-test Short (eqb n 5) _ _ (λ _. lit≤ tt)
     (λ _. by-test Short (eqb n 6) _ _ (λ _. lit≤ tt)
-    (λ _. by-test Short (eqb n 7) _ _ (λ _. lit≤ tt) (λ _. lit≤ tt)))))))
+    (λ _. by-test Short (eqb n 7) _ _ (λ _. lit≤ tt)
+    (λ _. by-test Short (eqb n 13) _ _ (λ _. lit≤ tt) (λ _. lit≤ tt))))))))

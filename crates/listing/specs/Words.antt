@@ -16,7 +16,8 @@ lettersFrom text at (suc more) = code (charAt text at) ∷ lettersFrom text (suc
 abbrev pub letters : String → List ℕ
 letters text = lettersFrom text 0 (len text)
 
--- the numbers of a call, from 01's table. 8, 9 and 10 are given where something was lent or saved wrong, and no other is a call's
+-- the numbers of a call, from 01's table, and 13 from 02, E3. 8, 9 and 10 are given where something was lent or saved wrong, and no other
+-- is a call's
 unfoldable pub reasonOf : ℕ → List ℕ
 reasonOf n =
     cond (eqb n 1) (letters "no header can follow")
@@ -26,7 +27,8 @@ reasonOf n =
     (cond (eqb n 5) (letters "a sample rate that is none")
     (cond (eqb n 6) (letters "another bit rate, sample rate or mode than the first")
     (cond (eqb n 7) (letters "the last frame is cut off")
-    (letters "a mistake of the caller")))))))
+    (cond (eqb n 13) (letters "a bit rate that the standard does not have in this mode")
+    (letters "a mistake of the caller"))))))))
 
 -- a frame's mode; there are four
 unfoldable pub modeWords : ℕ → List ℕ

@@ -9,7 +9,7 @@ use lib.ListN.{length, take}
 use Rattle.synthesis.specs.Slots.{memoryLength}
 use Rattle.buffer.specs.Bits.{longestStream}
 use Rattle.audio.specs.Calls.{openOf, openMemory, formatOf, decodeOf, decodeMemory}
-use Rattle.header.specs.declared.Reading.{Reading}
+use Rattle.readings.specs.declared.Reading.{Reading}
 use Rattle.audio.specs.declared.Answer.the-variants.{Refused}
 use Rattle.state.specs.declared.Audio.{Audio}
 

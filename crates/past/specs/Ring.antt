@@ -16,7 +16,7 @@ use Rattle.synthesis.specs.Ring.{place-after, position-frame}
 use Rattle.state.specs.State.{fresh}
 use Rattle.audio.specs.Calls.{afterOf, framedOf, framedMemory, decodeOf, decodeMemory, blank, openOf, openMemory, noRoomOf}
 use Rattle.audio.specs.CallsLaws.{Ready, blank-length}
-use Rattle.header.specs.declared.Reading.{Reading}
+use Rattle.readings.specs.declared.Reading.{Reading}
 use Rattle.state.specs.declared.Audio.{Audio}
 use Rattle.verdict.specs.declared.Heading.{Heading}
 use Rattle.verdict.specs.declared.Heading.the-variants.{Known, Refused}

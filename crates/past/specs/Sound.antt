@@ -1,5 +1,5 @@
 -- A state in range stays in range through every call, so a decoder since its opening never meets 10; and what more its states hold:
--- the start time by the count of frames, and a pending header's mode extension (Ring has the ring position and the memory).
+-- the start time by the count of frames, a pending header's mode extension, the opening's reading and its pairs (Ring has the ring position and the memory).
 -- From 01, "Numbers a call can give" (State in range). Assumes nothing.
 use Prim.Native.Nat.{ℕ, _+_, _*_, _/_, _≤_}
 use mathlib.Core.Path.{_≡_, refl, sym, ap, _∙_}
@@ -24,7 +24,7 @@ use Rattle.state.specs.StateLaws.{Ranged, ranged, in-range, fresh-ranged, frame
 use Rattle.audio.specs.CallsLaws.{Ready, goes, ended, question-leaves, by-opening}
 use Rattle.verdict.specs.VerdictLaws.{Sound, Kept, attempt-kept, verdict-holds, verdict-kept}
 use Rattle.past.specs.Calls.{Call, before, frameState, Accepts, verdict-of, accepted-leaves, refused-keeps}
-use Rattle.header.specs.declared.Reading.{Reading}
+use Rattle.readings.specs.declared.Reading.{Reading}
 use Rattle.state.specs.declared.Audio.{Audio}
 use Rattle.audio.specs.declared.Answer.{Answer}
 use Rattle.audio.specs.declared.Answer.the-variants.{Frame, Refused as AnswerRefused}
@@ -65,7 +65,7 @@ module _ (s : List ℕ) (skipped : ℕ) (a : Audio) (y : Ready s a) (w : Ranged 
 
   framed-sound : Sound a → Sound (framedOf s skipped a .state)
   unfolding framedOf afterOf cutFormat
-  framed-sound h = record { extension = λ some. absurd (some refl); time = refl }
+  framed-sound h = record { extension = λ some. absurd (some refl); time = refl; pair = h .pair }
 
 -- ---- the calls
 
@@ -79,12 +79,13 @@ record Leads (a b : Audio) (more : ℕ) : Type 0 where
   ranged : Ranged b
   sound : Sound a → Sound b
   frames : b .frames ≡ a .frames + more
+  reading : b .format .reading ≡ a .format .reading
 
 no-more : {a : Audio} {x : Asked} → Kept a x → Leads a (x .state) 0
-no-more k = record { ranged = k .ranged; sound = k .sound; frames = k .frames ∙ sym (add-zero _) }
+no-more k = record { ranged = k .ranged; sound = k .sound; frames = k .frames ∙ sym (add-zero _); reading = k .reading }
 
 decode-leads : (s : List ℕ) (m o : List Float) (a : Audio) → Ranged a → Leads a (decodeOf s m o a .state) (framesIn (decodeOf s m o a .answer))
-unfolding decodeOf framedOf afterOf
+unfolding decodeOf framedOf afterOf cutFormat
 decode-leads s m o a w = go (r .answer) refl
   where
     r : Asked
@@ -100,11 +101,12 @@ decode-leads s m o a w = go (r .answer) refl
           ranged = framed-ranged s (r .skipped) (r .state) y (k .ranged) (k .some e);
           sound = λ h. framed-sound s (r .skipped) (r .state) y (k .ranged) (k .some e) (k .sound h);
           frames = ap (λ n. n + 1) (k .frames);
+          reading = k .reading;
         }
     go (Refused n) e = no-more k
 
 stays-leads : (a : Audio) → Ranged a → Leads a a 0
-stays-leads a w = record { ranged = w; sound = λ h. h; frames = sym (add-zero _) }
+stays-leads a w = record { ranged = w; sound = λ h. h; frames = sym (add-zero _); reading = refl }
 
 question-leads : (s : List ℕ) (a : Audio) → Ranged a → Leads a (formatOf s a .state) 0
 question-leads s a w = question-leaves s a (λ (b : Audio). Leads a b 0) (stays-leads a w) (λ l _ _. no-more (attempt-kept s l a w))
@@ -139,7 +141,7 @@ sound-state-in-range (relent p more) = sound-state-in-range p
 
 fresh-sound : (c : Reading) → Sound (fresh c)
 unfolding fresh startTimeOf
-fresh-sound c = record { extension = λ some. absurd (some refl); time = refl }
+fresh-sound c = record { extension = λ some. absurd (some refl); time = refl; pair = λ some. absurd (some refl) }
 
 -- the header of a frame about to be decoded has a mode extension
 pub frame-has-extension : (s : List ℕ) (m o : ℕ) (a : Audio) → inRange a ≡ true → Sound a → readyOf s m o a .answer ≡ Known
@@ -152,6 +154,22 @@ sound (has-asked {a} p s) = question-leads s a (ranged a (sound-state-in-range p
 sound (decoded {a} {m} p s o) = decode-leads s m o a (ranged a (sound-state-in-range p)) .sound (sound p)
 sound (refused {a} p s other o n e) = decode-leads s other o a (ranged a (sound-state-in-range p)) .sound (sound p)
 sound (relent p more) = sound p
+
+-- the reading that its opening chose, and that the state keeps it
+unfoldable pub readingOf : {a : Audio} {m : List Float} → Past a m → Reading
+readingOf (opened c s m l k) = c
+readingOf (has-asked p s) = readingOf p
+readingOf (decoded p s o) = readingOf p
+readingOf (refused p s other o n e) = readingOf p
+readingOf (relent p more) = readingOf p
+
+pub the-reading-stays : {a : Audio} {m : List Float} (p : Past a m) → a .format .reading ≡ readingOf p
+unfolding readingOf fresh
+the-reading-stays (opened c s m l k) = open-leads c s m .reading
+the-reading-stays (has-asked {a} p s) = question-leads s a (ranged a (sound-state-in-range p)) .reading ∙ the-reading-stays p
+the-reading-stays (decoded {a} {m} p s o) = decode-leads s m o a (ranged a (sound-state-in-range p)) .reading ∙ the-reading-stays p
+the-reading-stays (refused {a} p s other o n e) = decode-leads s other o a (ranged a (sound-state-in-range p)) .reading ∙ the-reading-stays p
+the-reading-stays (relent p more) = the-reading-stays p
 
 -- the count of accepted frames, and that the state keeps it
 unfoldable pub framesOf : {a : Audio} {m : List Float} → Past a m → ℕ

@@ -68,5 +68,5 @@ callOf (suc (suc (suc (suc (suc (suc zero)))))) s at n = ofTold at (tellOf s (re
 callOf (suc (suc (suc (suc (suc (suc (suc k))))))) s at n = ofSync at (searchOf s (readerAt at))
 
 -- value, position, sync, passed over
-abbrev pub put : Answer → List ℕ → List ℕ
-put a o = set (set (set (set o 0 (a .value)) 1 (a .at)) 2 (a .sync)) 3 (a .skipped)
+abbrev pub answerInto : Answer → List ℕ → List ℕ
+answerInto a o = set (set (set (set o 0 (a .value)) 1 (a .at)) 2 (a .sync)) 3 (a .skipped)

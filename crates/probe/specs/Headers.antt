@@ -7,7 +7,7 @@ use lib.ListN.{getD, set}
 use Rattle.buffer.specs.Calls.{readerAt}
 use Rattle.header.specs.Header.{headerOf}
 use Rattle.header.specs.declared.Attempt.{Attempt}
-use Rattle.header.specs.Readings.{plain}
+use Rattle.readings.specs.Readings.{plain}
 use Rattle.header.specs.declared.Format.{Format}
 use Rattle.header.specs.declared.Header.{Header}
 use Rattle.header.specs.declared.Header.the-variants.{Accepted, Refused}

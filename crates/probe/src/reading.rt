@@ -11,7 +11,7 @@ use header::Attempt;
 use header::Format;
 use header::Header;
 ghost use mathlib.Core.Path.{_≡_};
-ghost use Rattle.probe.specs.Answers.{ofHolds, ofRead, ofMoved, ofSkipped, ofTold, ofSync, callOf, put};
+ghost use Rattle.probe.specs.Answers.{ofHolds, ofRead, ofMoved, ofSkipped, ofTold, ofSync, callOf, answerInto};
 ghost use Rattle.probe.specs.Headers.{formatFrom, ofAttempt, headerCallOf, stored};
 
 // 01's number, a value, and the bit position afterwards. A search also has the byte that it came to, and the bytes that it passed over.
@@ -205,7 +205,7 @@ pub extern "C" fn reading_reader(
 ) -> u32
     ensures number { λ r. ⌜ r ≡ callOf call (now (stream .entry)) at argument .number ⌝ }
     ensures given { λ _. let a = callOf call (now (stream .entry)) at argument in
-        ⌜ now (answer .exit) ≡ put a (now (answer .entry)) ⌝ }
+        ⌜ now (answer .exit) ≡ answerInto a (now (answer .entry)) ⌝ }
 {
     let a = reader_call(call, stream, at, argument);
     answer[0] = a.value;
@@ -228,7 +228,7 @@ pub struct Headed {
 fn format(known: &[usize; 4]) -> Format
     ensures { λ r. ⌜ r ≡ formatFrom (now (known .entry)) ⌝ }
 {
-    let reading = header::plain();
+    let reading = readings::plain();
     Format {
         reading,
         samplerate: known[0],

@@ -10,7 +10,7 @@ fn list(name: &[u8], stream: &[u8]) -> bool {
     if !named {
         return false;
     }
-    !scribe::has_failed(report::whole(stream, Behind::Marks))
+    !scribe::has_failed(report::whole(stream, readings::plain(), Behind::Marks))
 }
 
 // A file that cannot be read is told, and the others are played.

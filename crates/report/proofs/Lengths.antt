@@ -10,7 +10,7 @@ use borrow.Author.Tests.{ltb-false}
 use Rattle.ground.specs.Tests.{by-test}
 use Rattle.buffer.specs.declared.BytePos.{BytePos}
 use Rattle.synthesis.specs.Slots.{memoryLength, outputLength, quiet}
-use Rattle.header.specs.Readings.{plain}
+use Rattle.readings.specs.declared.Reading.{Reading}
 use Rattle.state.specs.declared.Audio.{Audio}
 use Rattle.verdict.specs.declared.Heading.{Heading}
 use Rattle.verdict.specs.declared.Heading.the-variants.{Known, Refused as HeadingRefused}
@@ -107,10 +107,10 @@ one-opening : (k : ℕ) (answer : Heading) (a : Audio) → length (openingShown 
 one-opening k Known a = omega arith
 one-opening k (HeadingRefused n) a = by-test (λ (xs : List Shown). length xs ≤ 1) (openingTold n) _ _ (λ _. omega arith) (λ _. omega arith)
 
-few-called : (s : List ℕ) → length (calledOf s) ≤ length s / 2 + 3
+few-called : (c : Reading) (s : List ℕ) → length (calledOf c s) ≤ length s / 2 + 3
 unfolding calledOf
-few-called s =
-    let opened = openOf plain s (quiet memoryLength) in
+few-called c s =
+    let opened = openOf c s (quiet memoryLength) in
     let m = openMemory s (quiet memoryLength) in
     let o = quiet outputLength in
     let carried = carriedBy (opened .skipped) (opened .answer) in
@@ -120,8 +120,8 @@ few-called s =
       few-lines (length s / 2 + 2) s m o carried (opened .state),
     ))
 
-pub listing-fits : (behind : Behind) (s : List ℕ) → length (listingOf behind s) < 2 ^ 64
+pub listing-fits : (c : Reading) (behind : Behind) (s : List ℕ) → length (listingOf c behind s) < 2 ^ 64
 unfolding listingOf shownOf
-listing-fits behind s =
+listing-fits c behind s =
     by-test (λ (xs : List Shown). length (textsOf behind xs) < 2 ^ 64) (ltb 65536 (length s)) _ _ (λ _. omega (arith, short-lines behind (shown Long [] ∷ [])))
-    (λ t. omega (arith, short-lines behind (calledOf s), few-called s, ltb-false 65536 (length s) t))
+    (λ t. omega (arith, short-lines behind (calledOf c s), few-called c s, ltb-false 65536 (length s) t))

@@ -9,8 +9,7 @@ use lib.Ieee.{Float}
 use lib.ListN.{length}
 use borrow.Author.Tests.{lt-ltb, le-ltb}
 use Rattle.synthesis.specs.Slots.{memoryLength, outputLength, quiet}
-use Rattle.header.specs.Readings.{plain}
-use Rattle.header.specs.declared.Reading.{Reading}
+use Rattle.readings.specs.declared.Reading.{Reading}
 use Rattle.state.specs.declared.Audio.{Audio}
 use Rattle.verdict.specs.declared.Asked.{Asked}
 use Rattle.audio.specs.Calls.{openOf, openMemory, decodeMemory, decodeOutput}
@@ -29,8 +28,8 @@ texts-append behind (x ∷ xs) ys =
     ap (λ (more : List ℕ). text ++ more) (texts-append behind xs ys) ∙ sym (append-assoc text (textsOf behind xs) (textsOf behind ys))
 
 -- the opening's line comes first, and behind it what the calls add
-module _ (behind : Behind) (s : List ℕ) (reading : Reading) (opened : Asked) (m : List Float) (short : length s ≤ 65536) (p : reading ≡ plain)
-    (e : opened ≡ openOf reading s (quiet memoryLength)) (f : m ≡ openMemory s (quiet memoryLength)) (carried : ℕ)
+module _ (c : Reading) (behind : Behind) (s : List ℕ) (opened : Asked) (m : List Float) (short : length s ≤ 65536)
+    (e : opened ≡ openOf c s (quiet memoryLength)) (f : m ≡ openMemory s (quiet memoryLength)) (carried : ℕ)
     (g : carried ≡ carriedBy (opened .skipped) (opened .answer)) where
   abbrev openingText : List ℕ
   openingText = textsOf behind (openingShown (opened .skipped) (opened .answer) (opened .state))
@@ -38,14 +37,14 @@ module _ (behind : Behind) (s : List ℕ) (reading : Reading) (opened : Asked) (
   abbrev callsText : List ℕ
   callsText = textsOf behind (shownFrom (length s / 2 + 2) s m (quiet outputLength) carried (opened .state))
 
-  begins : (at : ℕ) → at ≡ 0 → Rest (listingOf behind s) at (openingText ++ callsText)
+  begins : (at : ℕ) → at ≡ 0 → Rest (listingOf c behind s) at (openingText ++ callsText)
   unfolding listingOf shownOf calledOf
-  begins at z = nothing-written z (rw (g, e, p, f, le-ltb 65536 (length s) short) (texts-append behind _ _))
+  begins at z = nothing-written z (rw (g, e, f, le-ltb 65536 (length s) short) (texts-append behind _ _))
 
-  pub opening-next : (at : ℕ) → at ≡ 0 → Next (listingOf behind s) at openingText
+  pub opening-next : (at : ℕ) → at ≡ 0 → Next (listingOf c behind s) at openingText
   opening-next at z = rest-next openingText callsText (begins at z)
 
-  pub calls-rest : (at then : ℕ) → at ≡ 0 → then ≡ at + length openingText → Rest (listingOf behind s) then callsText
+  pub calls-rest : (at then : ℕ) → at ≡ 0 → then ≡ at + length openingText → Rest (listingOf c behind s) then callsText
   calls-rest at then z l = rest-behind openingText callsText l (begins at z)
 
 -- then call by call: its line, and the rest, unless it was the last
@@ -80,11 +79,11 @@ module _ (behind : Behind) (calls : ℕ) (s : List ℕ) (memory output : List Fl
       after-other h = rw (sym t ∙ h) at (rest-behind (textBy behind (x .line) o) _ l turned)
 
 -- of too long a stream there is one line
-module _ (behind : Behind) (s : List ℕ) (long : 65536 < length s) where
-  pub long-next : (at : ℕ) → at ≡ 0 → Next (listingOf behind s) at (textBy behind Long [])
+module _ (c : Reading) (behind : Behind) (s : List ℕ) (long : 65536 < length s) where
+  pub long-next : (at : ℕ) → at ≡ 0 → Next (listingOf c behind s) at (textBy behind Long [])
   unfolding listingOf shownOf textsOf
   long-next at z = rest-next (textBy behind Long []) [] (nothing-written z (rw (lt-ltb 65536 (length s) long)))
 
-  pub long-only : length (textBy behind Long []) ≡ length (listingOf behind s)
+  pub long-only : length (textBy behind Long []) ≡ length (listingOf c behind s)
   unfolding listingOf shownOf textsOf
   long-only = rw (lt-ltb 65536 (length s) long) (ap length (sym (append-nil (textBy behind Long []))))

@@ -1,6 +1,7 @@
 // What is in a clip, as text: the opening's line, then call by call.
 use listing::Behind;
 use listing::Line;
+use readings::Reading;
 use scribe::Written;
 use verdict::Asked;
 use verdict::Heading;
@@ -11,10 +12,16 @@ ghost use Rattle.listing.specs.Lines.{openingShown};
 ghost use Rattle.listing.specs.Text.{listingOf, textsOf};
 ghost use Rattle.scribe.specs.Next.{Next};
 
-// "An opening refused with 2 to 5 prints it too"; one refused with 1 is told by the first call.
-fn put_opening(stream: &[u8], behind: Behind, done: Written, opened: Asked) -> Written
-    requires { ⌜ length (listingOf behind (now stream)) < 2 ^ 64 ⌝ }
-    requires { ⌜ Next (listingOf behind (now stream)) (done .bytes) (textsOf behind (openingShown (opened .skipped) (opened .answer) (opened .state))) ⌝ }
+// "An opening refused with 2 to 5 prints it too", and so does 13; one refused with 1 is told by the first call.
+fn put_opening(
+    stream: &[u8],
+    reading: Reading,
+    behind: Behind,
+    done: Written,
+    opened: Asked,
+) -> Written
+    requires { ⌜ length (listingOf reading behind (now stream)) < 2 ^ 64 ⌝ }
+    requires { ⌜ Next (listingOf reading behind (now stream)) (done .bytes) (textsOf behind (openingShown (opened .skipped) (opened .answer) (opened .state))) ⌝ }
     ensures { λ r. ⌜ r .bytes ≡ done .bytes + length (textsOf behind (openingShown (opened .skipped) (opened .answer) (opened .state))) ⌝ }
 {
     let state = opened.state;
@@ -30,7 +37,7 @@ fn put_opening(stream: &[u8], behind: Behind, done: Written, opened: Asked) -> W
                     at,
                     skipped: opened.skipped,
                 };
-                return text::put_line(stream, behind, done, line, &samples);
+                return text::put_line(stream, reading, behind, done, line, &samples);
             }
             done
         }
@@ -38,15 +45,14 @@ fn put_opening(stream: &[u8], behind: Behind, done: Written, opened: Asked) -> W
 }
 
 // "calls until 1 or 7": on n bytes at most n/2 + 1 calls come before. What the opening carries goes to one line.
-fn list(stream: &[u8], behind: Behind) -> Written
+fn list(stream: &[u8], reading: Reading, behind: Behind) -> Written
     requires { ⌜ length (now stream) ≤ 65536 ⌝ }
-    ensures { λ r. ⌜ r .bytes ≡ length (listingOf behind (now (stream .entry))) ⌝ }
+    ensures { λ r. ⌜ r .bytes ≡ length (listingOf reading behind (now (stream .entry))) ⌝ }
 {
-    let reading = header::plain();
     let mut memory = [0.0f32; synthesis::MEMORY];
     let mut output = [0.0f32; synthesis::OUTPUT];
     let opened = audio::new(stream, &mut memory, reading);
-    let mut done = put_opening(stream, behind, scribe::nothing_yet(), opened);
+    let mut done = put_opening(stream, reading, behind, scribe::nothing_yet(), opened);
     let mut state = opened.state;
     let mut carried = listing::carried(opened);
     let mut calls = stream.len() / 2 + 2;
@@ -56,7 +62,7 @@ fn list(stream: &[u8], behind: Behind) -> Written
         carried = 0;
         state = listed.state;
         let line = listed.line;
-        done = text::put_line(stream, behind, done, line, &output);
+        done = text::put_line(stream, reading, behind, done, line, &output);
         if listing::is_last(line) {
             break;
         }
@@ -65,12 +71,19 @@ fn list(stream: &[u8], behind: Behind) -> Written
 }
 
 // The listing of a stream: of more than 65,536 bytes the one line `long`.
-pub fn whole(stream: &[u8], behind: Behind) -> Written
-    ensures { λ r. ⌜ r .bytes ≡ length (listingOf behind (now (stream .entry))) ⌝ }
+pub fn whole(stream: &[u8], reading: Reading, behind: Behind) -> Written
+    ensures { λ r. ⌜ r .bytes ≡ length (listingOf reading behind (now (stream .entry))) ⌝ }
 {
     if stream.len() <= 65536 {
-        return list(stream, behind);
+        return list(stream, reading, behind);
     }
     let samples = [0.0f32; 0];
-    text::put_line(stream, behind, scribe::nothing_yet(), Line::Long, &samples)
+    text::put_line(
+        stream,
+        reading,
+        behind,
+        scribe::nothing_yet(),
+        Line::Long,
+        &samples,
+    )
 }

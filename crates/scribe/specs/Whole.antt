@@ -9,12 +9,12 @@ use Rattle.scribe.specs.declared.Whole.{Whole}
 use Rattle.scribe.specs.declared.Whole.the-variants.{Lines, Summary, Wave}
 
 abbrev pub wholeOf : Whole → List ℕ → List ℕ
-wholeOf (Lines behind) s = listingOf behind s
-wholeOf Summary s = summaryOf s
+wholeOf (Lines reading behind) s = listingOf reading behind s
+wholeOf (Summary reading) s = summaryOf reading s
 wholeOf Wave s = waveOf s
 
 -- 1 is standard output, 2 standard error
 abbrev pub descriptorOf : Whole → ℤ
-descriptorOf (Lines behind) = pos 1
-descriptorOf Summary = pos 2
+descriptorOf (Lines reading behind) = pos 1
+descriptorOf (Summary reading) = pos 2
 descriptorOf Wave = pos 1

@@ -3,6 +3,7 @@
 use libc::STDERR_FILENO;
 use libc::STDOUT_FILENO;
 use listing::Behind;
+use readings::Reading;
 ghost use mathlib.Core.Bool.{false};
 ghost use mathlib.Core.Path.{_≡_};
 ghost use Prim.Native.Nat.{_+_, _^_, _<_};
@@ -10,10 +11,10 @@ ghost use lib.ListN.{length};
 ghost use Rattle.scribe.specs.Next.{Next};
 ghost use Rattle.scribe.specs.Whole.{descriptorOf, wholeOf};
 
-// A stream's listing, its summary in one line, or its WAVE file.
+// A stream's listing, or its summary in one line, in a reading; or its WAVE file, which is of the plain one.
 pub enum Whole {
-    Lines(Behind),
-    Summary,
+    Lines(Reading, Behind),
+    Summary(Reading),
     Wave,
 }
 
@@ -45,8 +46,8 @@ fn descriptor(what: Whole) -> i32
     ensures { λ r. ⌜ r ≡ descriptorOf what ⌝ }
 {
     match what {
-        Whole::Lines(_) => STDOUT_FILENO,
-        Whole::Summary => STDERR_FILENO,
+        Whole::Lines(_, _) => STDOUT_FILENO,
+        Whole::Summary(_) => STDERR_FILENO,
         Whole::Wave => STDOUT_FILENO,
     }
 }

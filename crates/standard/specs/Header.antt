@@ -2,9 +2,9 @@
 -- by the standard's names, and the frame's size. Nothing here is the port's. Assumes nothing.
 use Prim.Native.Nat.{ℕ, _+_, _-_, _*_, _/_, _≤_, min}
 use mathlib.Core.Path.{_≡_}
-use mathlib.Core.Bool.{Bool, cond, not, _||_}
+use mathlib.Core.Bool.{Bool, true, false, cond}
 use mathlib.Core.List.{List, [], _∷_}
-use lib.Dec.{eqb, leb}
+use lib.Dec.{eqb}
 use lib.ListN.{getD}
 use Rattle.buffer.specs.Bits.{bitsValue}
 use Rattle.tables.specs.Standard.{kbpsOf, rateOf, Table, sblimit, chosen}
@@ -39,9 +39,23 @@ allocationTable mode index frequency = chosen (singleChannel mode) (index - 1) f
 abbrev pub bound : ℕ → ℕ → Table → ℕ
 bound mode extension t = cond (jointStereo mode) (min (getD (4 ∷ 8 ∷ 12 ∷ 16 ∷ []) extension 0) (sblimit t)) (sblimit t)
 
--- mode and bit rate: 32, 48, 56 and 80 kbit/s are for one channel only, 224 and more for two only
+-- the bit rates and the modes that may have them: a row for each bitrate_index, with whether single_channel may, and the other modes
+pub record Pair : Type 0 where
+  pub kbps : ℕ
+  pub single : Bool
+  pub others : Bool
+
+abbrev pair : ℕ → Bool → Bool → Pair
+pair kbps single others = record { kbps = kbps; single = single; others = others }
+
+abbrev pub pairs : List Pair
+pairs =
+    pair 32 true false ∷ pair 48 true false ∷ pair 56 true false ∷ pair 64 true true ∷ pair 80 true false ∷ pair 96 true true ∷ pair 112 true true
+    ∷ pair 128 true true ∷ pair 160 true true ∷ pair 192 true true ∷ pair 224 false true ∷ pair 256 false true ∷ pair 320 false true
+    ∷ pair 384 false true ∷ []
+
 abbrev pub permitted : ℕ → ℕ → Bool
-permitted mode index = let kbps = kbpsOf (index - 1) in cond (singleChannel mode) (leb kbps 192) (not (leb kbps 56 || eqb kbps 80))
+permitted mode index = let p = getD pairs (index - 1) (pair 0 false false) in cond (singleChannel mode) (p .single) (p .others)
 
 -- 2.4.3.1: N, the frame's bytes, header included: 144 times bit rate by sampling rate, rounded down, and one more with padding
 abbrev pub frameBytes : ℕ → ℕ → ℕ → ℕ

@@ -9,7 +9,7 @@ use mathlib.Core.List.{[], _∷_, map}
 use lib.Ieee.{binary64, ofBits, toBits, isNan, div, ofInt}
 use lib.ListN.{replicate}
 use Rattle.buffer.specs.Calls.{readerAt}
-use Rattle.header.specs.Readings.{plain}
+use Rattle.readings.specs.Readings.{plain}
 use Rattle.clock.specs.Clock.{startTimeOf, sameBits, onTime}
 use Rattle.state.specs.State.{numbersOk, inRange}
 use Rattle.state.specs.declared.Audio.{Audio}

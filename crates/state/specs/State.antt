@@ -10,7 +10,7 @@ use Rattle.buffer.specs.Calls.{readerAt}
 use Rattle.buffer.specs.declared.Reader.{Reader}
 use Rattle.header.specs.Header.{leastData, mostData}
 use Rattle.header.specs.declared.Format.{Format}
-use Rattle.header.specs.declared.Reading.{Reading}
+use Rattle.readings.specs.declared.Reading.{Reading}
 use Rattle.clock.specs.Clock.{startTimeOf, onTime}
 use Rattle.state.specs.declared.Audio.{Audio}
 

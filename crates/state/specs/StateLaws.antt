@@ -14,7 +14,7 @@ use Rattle.header.specs.Header.{leastData, mostData}
 use Rattle.buffer.specs.declared.Reader.{Reader}
 use Rattle.header.specs.Accepted.{SameFormat, Good}
 use Rattle.header.specs.declared.Format.{Format}
-use Rattle.header.specs.declared.Reading.{Reading}
+use Rattle.readings.specs.declared.Reading.{Reading}
 use Rattle.clock.specs.Clock.{startTimeOf, sameBits, onTime}
 use Rattle.clock.specs.Laws.{start-real, like-bits}
 use Rattle.window.specs.Output.{Place}

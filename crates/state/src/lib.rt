@@ -5,7 +5,7 @@ use buffer::Reader;
 use header::Format;
 use header::LEAST_DATA;
 use header::MOST_DATA;
-use header::Reading;
+use readings::Reading;
 ghost use mathlib.Core.Path.{_≡_};
 ghost use Rattle.state.specs.State.{fresh, numbersOk, inRange};
 

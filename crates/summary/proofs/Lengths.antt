@@ -6,6 +6,7 @@ use native.Mathlib.Omega.{arith}
 use lib.Dec.{eqb, lit≤}
 use lib.ListN.{length, length-append}
 use Rattle.ground.specs.Tests.{by-test}
+use Rattle.readings.specs.declared.Reading.{Reading}
 use Rattle.listing.specs.Lines.{tooLong, linesOf}
 use Rattle.listing.specs.Summary.{countedText, hundredthsOf, secondsText, framesText, junkText, reasonText, refusalText, refusalsText, linesText, summaryOf}
 use Rattle.listing.specs.Tally.{firstOf, ratesIn, bytesIn, endIn, junkIn}
@@ -59,18 +60,18 @@ short-refusals lines n zero = omega arith
 short-refusals lines n (suc more) =
     simp length-append (omega (arith, short-refusal n (length (bytesIn n lines)) (firstOf (bytesIn n lines)), short-refusals lines (suc n) more))
 
-short-lines : (lines : List Line) → length (linesText lines) ≤ 1350
+short-lines : (lines : List Line) → length (linesText lines) ≤ 3150
 unfolding linesText
 short-lines lines =
     simp length-append (omega (
       arith,
       short-frames (length (ratesIn lines)) (firstOf (ratesIn lines)),
       short-junk (junkIn lines),
-      short-refusals lines 2 5,
+      short-refusals lines 2 14,
       short-told (letters "; ended with ") (endIn lines),
     ))
 
-pub summary-fits : (s : List ℕ) → length (summaryOf s) < 2 ^ 64
+pub summary-fits : (c : Reading) (s : List ℕ) → length (summaryOf c s) < 2 ^ 64
 unfolding summaryOf
-summary-fits s =
-    by-test (λ (text : List ℕ). length text < 2 ^ 64) (tooLong s) _ _ (λ _. omega arith) (λ _. omega (arith, short-lines (linesOf s)))
+summary-fits c s =
+    by-test (λ (text : List ℕ). length text < 2 ^ 64) (tooLong s) _ _ (λ _. omega arith) (λ _. omega (arith, short-lines (linesOf c s)))

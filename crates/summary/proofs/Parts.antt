@@ -7,6 +7,7 @@ use native.Mathlib.Omega.{arith}
 use lib.Dec.{eqb}
 use lib.ListN.{length}
 use borrow.Author.Tests.{lt-ltb, le-ltb, eq-eqb, ne-eqb}
+use Rattle.readings.specs.declared.Reading.{Reading}
 use Rattle.listing.specs.Lines.{linesOf}
 use Rattle.listing.specs.Summary.{countedText, hundredthsOf, secondsText, framesText, junkText, reasonText, refusalText, refusalsText, linesText, summaryOf}
 use Rattle.listing.specs.Tally.{firstOf, ratesIn, bytesIn, endIn, junkIn}
@@ -50,22 +51,22 @@ pub some-refusals : (n count first : ℕ) → (count ≡ 0 → ⊥)
 unfolding refusalText
 some-refusals n count first e = rw (ne-eqb count 0 e)
 
-pub next-refusal : (lines : List Line) (n : ℕ) → n < 7
-    → refusalsText lines n (7 - n) ≡ refusalText n (length (bytesIn n lines)) (firstOf (bytesIn n lines)) ++ refusalsText lines (suc n) (7 - suc n)
+pub next-refusal : (lines : List Line) (n : ℕ) → n < 16
+    → refusalsText lines n (16 - n) ≡ refusalText n (length (bytesIn n lines)) (firstOf (bytesIn n lines)) ++ refusalsText lines (suc n) (16 - suc n)
 unfolding refusalsText
-next-refusal lines n l = let e : 7 - n ≡ suc (7 - suc n) = omega arith in ap (refusalsText lines n) e
+next-refusal lines n l = let e : 16 - n ≡ suc (16 - suc n) = omega arith in ap (refusalsText lines n) e
 
-pub no-more : (lines : List Line) (n : ℕ) → 7 ≤ n → refusalsText lines n (7 - n) ≡ []
+pub no-more : (lines : List Line) (n : ℕ) → 16 ≤ n → refusalsText lines n (16 - n) ≡ []
 unfolding refusalsText
-no-more lines n l = let e : 7 - n ≡ 0 = omega arith in ap (refusalsText lines n) e
+no-more lines n l = let e : 16 - n ≡ 0 = omega arith in ap (refusalsText lines n) e
 
-pub short-summary : (s : List ℕ) → length s ≤ 65536
-    → summaryOf s
-    ≡ framesText (length (ratesIn (linesOf s))) (firstOf (ratesIn (linesOf s)))
-    ++ (junkText (junkIn (linesOf s)) ++ (refusalsText (linesOf s) 2 5 ++ (reasonText (letters "; ended with ") (endIn (linesOf s)) ++ newline)))
+pub short-summary : (c : Reading) (s : List ℕ) → length s ≤ 65536
+    → summaryOf c s
+    ≡ framesText (length (ratesIn (linesOf c s))) (firstOf (ratesIn (linesOf c s)))
+    ++ (junkText (junkIn (linesOf c s)) ++ (refusalsText (linesOf c s) 2 14 ++ (reasonText (letters "; ended with ") (endIn (linesOf c s)) ++ newline)))
 unfolding summaryOf linesText
-short-summary s l = rw (le-ltb 65536 (length s) l)
+short-summary c s l = rw (le-ltb 65536 (length s) l)
 
-pub long-summary : (s : List ℕ) → 65536 < length s → summaryOf s ≡ letters "too long: 65,536 bytes at most\n"
+pub long-summary : (c : Reading) (s : List ℕ) → 65536 < length s → summaryOf c s ≡ letters "too long: 65,536 bytes at most\n"
 unfolding summaryOf
-long-summary s l = rw (lt-ltb 65536 (length s) l)
+long-summary c s l = rw (lt-ltb 65536 (length s) l)

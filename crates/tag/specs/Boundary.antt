@@ -13,7 +13,7 @@ use Rattle.buffer.specs.Bits.{bitAt, bitsValue}
 use Rattle.buffer.specs.Calls.{readerAt, readOf, fieldOf, hasOf, skipBytesOf, searchOf}
 use Rattle.grammar.specs.Reads.{_>>=_, run}
 use Rattle.header.specs.Header.{headerOf, startOf, syncOf, seekOf, fieldsOf, identOf, ratesOf, restOf, modeOf, boundOf, checkOf, sizeOf}
-use Rattle.header.specs.Readings.{plain}
+use Rattle.readings.specs.Readings.{plain}
 use Rattle.synthesis.specs.Slots.{memoryLength, outputLength, quiet}
 use Rattle.riff.specs.Level.{wordsOf}
 use Rattle.clock.specs.Clock.{startTimeOf, sameBits, onTime}
@@ -22,7 +22,7 @@ use Rattle.state.specs.declared.Audio.{Audio}
 use Rattle.verdict.specs.Verdict.{attemptOf, headedOf, enoughOf, atOnceOf, readyOf, knownOf}
 use Rattle.verdict.specs.declared.Asked.{Asked}
 use Rattle.audio.specs.Calls.{noRoomOf, openOf, openMemory, formatOf, decodeOf, decodeMemory, decodeOutput}
-use Rattle.header.specs.declared.Reading.{Reading}
+use Rattle.readings.specs.declared.Reading.{Reading}
 use Rattle.audio.specs.Numbers.{headingNumber, replyNumber, replyRate, replyKbps, replyMode, answerNumber, answerStart, answerBits, littleRoom}
 use Rattle.audio.specs.declared.Reply.{Reply}
 use Rattle.audio.specs.declared.Reply.the-variants.{Refused as ReplyRefused}

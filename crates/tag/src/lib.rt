@@ -5,11 +5,11 @@ use audio::Reply;
 use buffer::BitIndex;
 use buffer::Reader;
 use header::Format;
-use header::Reading;
+use readings::Reading;
 use state::Audio;
 use verdict::Heading;
 ghost use mathlib.Core.Path.{_≡_};
-ghost use Rattle.header.specs.Readings.{readingBy};
+ghost use Rattle.readings.specs.Readings.{readingBy};
 ghost use Rattle.audio.specs.Calls.{openOf, openMemory};
 ghost use Rattle.audio.specs.Numbers.{headingNumber};
 ghost use Rattle.tag.specs.Boundary.{stateOf, placesOf, countsOf, namedOf, playedOf, TagOpen, TagFormat, TagDecode, TagSamples16};
@@ -89,7 +89,7 @@ pub extern "C" fn tag_open(
         ⌜ TagOpen x r (now (places .exit)) (now (counts .exit)) (now (time .exit)) ⌝ }
     ensures { λ _. ⌜ now (memory .exit) ≡ openMemory (now (stream .entry)) (now (memory .entry)) ⌝ }
 {
-    let x = audio::new(stream, memory, header::reading_by(choices));
+    let x = audio::new(stream, memory, readings::reading_by(choices));
     let state = x.state;
     let answer = x.answer;
     *places = places_of(state, x.skipped);

@@ -70,12 +70,12 @@ kept-more (v ∷ vs) value =
     let one : suc (length (vs ++ (value ∷ []))) ≡ suc (length vs) + 1 = omega (arith, length-append vs (value ∷ [])) in
     rw (ne-eqb (suc (length vs)) 0 (λ e. omega arith)) (ap {B = Kept} (λ (n : ℕ). record { count = n; first = v }) one)
 
-same-table : (f g : ℕ → Kept) → ((n : ℕ) → n < 8 → f n ≡ g n) → table 8 f ≡ table 8 g
-same-table f g same = is-table none 8 g (table 8 f) (length-table 8 f) (λ n l. at-table none 8 f n l ∙ same n l)
+same-table : (f g : ℕ → Kept) → ((n : ℕ) → n < 16 → f n ≡ g n) → table 16 f ≡ table 16 g
+same-table f g same = is-table none 16 g (table 16 f) (length-table 16 f) (λ n l. at-table none 16 f n l ∙ same n l)
 
 -- a line that is no refusal leaves them as they are
 no-refusal : (xs : List Line) (x : Line) → ((n : ℕ) → bytesOf n x ≡ [])
-    → table 8 (λ n. keptOf (bytesIn n (xs ++ (x ∷ [])))) ≡ table 8 (λ n. keptOf (bytesIn n xs))
+    → table 16 (λ n. keptOf (bytesIn n (xs ++ (x ∷ [])))) ≡ table 16 (λ n. keptOf (bytesIn n xs))
 no-refusal xs x e =
     same-table _ _ (λ n l. ap keptOf (flat-more (bytesOf n) xs x ∙ ap (λ (more : List ℕ). bytesIn n xs ++ more) (e n) ∙ append-nil (bytesIn n xs)))
 
@@ -92,16 +92,16 @@ module _ (xs : List Line) (number at : ℕ) where
   one-kept : (n : ℕ) → n ≡ number → keepOf (before number) at ≡ after n
   one-kept n e = rw (e, eq-eqb number number refl) (sym (kept-more (bytesIn number xs) at))
 
-  refusal-kept : keepAt (table 8 before) number at ≡ table 8 after
+  refusal-kept : keepAt (table 16 before) number at ≡ table 16 after
   refusal-kept =
-      by-test (λ (refused : List Kept). refused ≡ table 8 after) (ltb number 8) _ _
-      (λ t. let inside = ltb-true number 8 t in
-      let kept : keepOf (getD (table 8 before) number none) at ≡ keepOf (before number) at = ap (λ (k : Kept). keepOf k at) (at-table none 8 before number inside) in
-      is-table none 8 after (set (table 8 before) number (keepOf (getD (table 8 before) number none) at))
-      (length-set (table 8 before) number _ ∙ length-table 8 before)
-      (λ n l. set-either none (table 8 before) number n _ (after n) (omega (arith, length-table 8 before)) (λ e. kept ∙ one-kept n e)
-      (λ e. at-table none 8 before n l ∙ other-kept n e)))
-      (λ t. let outside = ltb-false number 8 t in same-table before after (λ n l. other-kept n (λ e. omega arith)))
+      by-test (λ (refused : List Kept). refused ≡ table 16 after) (ltb number 16) _ _
+      (λ t. let inside = ltb-true number 16 t in
+      let kept : keepOf (getD (table 16 before) number none) at ≡ keepOf (before number) at = ap (λ (k : Kept). keepOf k at) (at-table none 16 before number inside) in
+      is-table none 16 after (set (table 16 before) number (keepOf (getD (table 16 before) number none) at))
+      (length-set (table 16 before) number _ ∙ length-table 16 before)
+      (λ n l. set-either none (table 16 before) number n _ (after n) (omega (arith, length-table 16 before)) (λ e. kept ∙ one-kept n e)
+      (λ e. at-table none 16 before n l ∙ other-kept n e)))
+      (λ t. let outside = ltb-false number 16 t in same-table before after (λ n l. other-kept n (λ e. omega arith)))
 
 pub added : (xs : List Line) (x : Line) → tallyOf (xs ++ (x ∷ [])) ≡ addOf (tallyOf xs) x
 unfolding tallyOf
@@ -143,12 +143,12 @@ module _ (xs : List Line) (short : length xs < 100000) where
   abbrev kept : ℕ → Kept
   kept n = keptOf (bytesIn n xs)
 
-  by-place : (n : ℕ) (t : Bool) → ltb n 8 ≡ t → getD (table 8 kept) n none .count < 100000
-  by-place n true e = rw (at-table none 8 kept n (ltb-true n 8 e)) (omega (arith, one-at-most (bytesOf n) (one-byte n) xs))
+  by-place : (n : ℕ) (t : Bool) → ltb n 16 ≡ t → getD (table 16 kept) n none .count < 100000
+  by-place n true e = rw (at-table none 16 kept n (ltb-true n 16 e)) (omega (arith, one-at-most (bytesOf n) (one-byte n) xs))
   by-place n false e =
-      let outside : length (table 8 kept) ≤ n = omega (arith, length-table 8 kept, ltb-false n 8 e) in
-      rw (List·getD-eq-default (table 8 kept) none outside) (omega arith)
+      let outside : length (table 16 kept) ≤ n = omega (arith, length-table 16 kept, ltb-false n 16 e) in
+      rw (List·getD-eq-default (table 16 kept) none outside) (omega arith)
 
   pub few : (tallyOf xs .frames .count < 100000) × Few (tallyOf xs .refused)
   unfolding tallyOf
-  few = (omega (arith, one-at-most rateInLine one-rate xs), λ n. by-place n (ltb n 8) refl)
+  few = (omega (arith, one-at-most rateInLine one-rate xs), λ n. by-place n (ltb n 16) refl)

@@ -9,8 +9,7 @@ use lib.ListN.{length, length-append}
 use borrow.Author.Tests.{le-ltb}
 use Rattle.ground.specs.Tests.{by-test}
 use Rattle.synthesis.specs.Slots.{memoryLength, outputLength, quiet}
-use Rattle.header.specs.Readings.{plain}
-use Rattle.header.specs.declared.Reading.{Reading}
+use Rattle.readings.specs.declared.Reading.{Reading}
 use Rattle.state.specs.declared.Audio.{Audio}
 use Rattle.verdict.specs.declared.Asked.{Asked}
 use Rattle.verdict.specs.declared.Heading.{Heading}
@@ -30,14 +29,14 @@ lines-append : (xs ys : List Shown) → linesIn (xs ++ ys) ≡ linesIn xs ++ lin
 lines-append [] ys = refl
 lines-append (x ∷ xs) ys = ap (λ (more : List Line). x .line ∷ more) (lines-append xs ys)
 
-called-lines : (s : List ℕ) → let opened = openOf plain s (quiet memoryLength) in
+called-lines : (c : Reading) (s : List ℕ) → let opened = openOf c s (quiet memoryLength) in
     let carried = carriedBy (opened .skipped) (opened .answer) in
-    linesIn (calledOf s)
+    linesIn (calledOf c s)
     ≡ linesIn (openingShown (opened .skipped) (opened .answer) (opened .state))
     ++ linesIn (shownFrom (length s / 2 + 2) s (openMemory s (quiet memoryLength)) (quiet outputLength) carried (opened .state))
 unfolding calledOf
-called-lines s =
-    let opened = openOf plain s (quiet memoryLength) in lines-append (openingShown (opened .skipped) (opened .answer) (opened .state)) _
+called-lines c s =
+    let opened = openOf c s (quiet memoryLength) in lines-append (openingShown (opened .skipped) (opened .answer) (opened .state)) _
 
 -- an opening has one line at most, and so little junk
 one-opening : (k : ℕ) (answer : Heading) (a : Audio) → let xs = linesIn (openingShown k answer a) in (length xs ≤ 1) × (junkIn xs ≤ k)
@@ -48,37 +47,37 @@ one-opening k (Refused n) a =
     (λ _. (omega arith, omega arith))
 
 -- the lines that were added, and those that are left
-pub record Counted (s : List ℕ) (tally : Tally) (calls : ℕ) (rest : List Line) : Type 0 where
+pub record Counted (c : Reading) (s : List ℕ) (tally : Tally) (calls : ℕ) (rest : List Line) : Type 0 where
   pub done : List Line
-  pub all : linesOf s ≡ done ++ rest
+  pub all : linesOf c s ≡ done ++ rest
   pub is : tally ≡ tallyOf done
   pub room : length done + calls ≤ length s / 2 + 3
   -- a line says that at most twice the stream was passed over
   pub little : junkIn done + 131072 * calls ≤ 131072 * (length s / 2 + 3)
 
-module _ (s : List ℕ) (reading : Reading) (opened : Asked) (m : List Float) (tally : Tally) (short : length s ≤ 65536) (p : reading ≡ plain)
-    (e : opened ≡ openOf reading s (quiet memoryLength)) (f : m ≡ openMemory s (quiet memoryLength))
+module _ (c : Reading) (s : List ℕ) (opened : Asked) (m : List Float) (tally : Tally) (short : length s ≤ 65536)
+    (e : opened ≡ openOf c s (quiet memoryLength)) (f : m ≡ openMemory s (quiet memoryLength))
     (t : tally ≡ tallyOf (linesIn (openingShown (opened .skipped) (opened .answer) (opened .state)))) (carried : ℕ)
     (g : carried ≡ carriedBy (opened .skipped) (opened .answer)) where
-  pub begins : Counted s tally (length s / 2 + 2) (linesIn (shownFrom (length s / 2 + 2) s m (quiet outputLength) carried (opened .state)))
+  pub begins : Counted c s tally (length s / 2 + 2) (linesIn (shownFrom (length s / 2 + 2) s m (quiet outputLength) carried (opened .state)))
   unfolding shownOf
   begins =
       let one = one-opening (opened .skipped) (opened .answer) (opened .state) in
-      let passed : opened .skipped ≤ length s = rw e (open-passes-few reading s (quiet memoryLength)) in
+      let passed : opened .skipped ≤ length s = rw e (open-passes-few c s (quiet memoryLength)) in
       record {
         done = linesIn (openingShown (opened .skipped) (opened .answer) (opened .state));
-        all = rw (g, e, p, f, le-ltb 65536 (length s) short) (called-lines s);
+        all = rw (g, e, f, le-ltb 65536 (length s) short) (called-lines c s);
         is = t;
         room = omega arith;
         little = omega arith;
       }
 
-module _ (s : List ℕ) (calls : ℕ) (memory output : List Float) (carried : ℕ) (a : Audio) (tally : Tally) (short : length s ≤ 65536)
-    (left : Counted s tally calls (linesIn (shownFrom calls s memory output carried a))) where
-  pub none-left : calls ≡ 0 → tally ≡ tallyOf (linesOf s)
+module _ (c : Reading) (s : List ℕ) (calls : ℕ) (memory output : List Float) (carried : ℕ) (a : Audio) (tally : Tally) (short : length s ≤ 65536)
+    (left : Counted c s tally calls (linesIn (shownFrom calls s memory output carried a))) where
+  pub none-left : calls ≡ 0 → tally ≡ tallyOf (linesOf c s)
   unfolding shownFrom
   none-left z =
-      let all : linesOf s ≡ left .done = rw z at (left .all) ∙ append-nil (left .done) in
+      let all : linesOf c s ≡ left .done = rw z at (left .all) ∙ append-nil (left .done) in
       left .is ∙ ap tallyOf (sym all)
 
   module _ (within : carried ≤ length s) (x : Listed) (m o : List Float) (some : 0 < calls) (e : x ≡ nextOf s memory output carried a)
@@ -108,13 +107,13 @@ module _ (s : List ℕ) (calls : ℕ) (memory output : List Float) (carried : �
       so-far : next ≡ tallyOf (left .done ++ line)
       so-far = n ∙ ap (λ (before : Tally). addOf before (x .line)) (left .is) ∙ sym (added (left .done) (x .line))
 
-      all-lines : linesOf s ≡ (left .done ++ line) ++ linesIn (cond (isLast (x .line)) [] more)
+      all-lines : linesOf c s ≡ (left .done ++ line) ++ linesIn (cond (isLast (x .line)) [] more)
       all-lines = left .all ∙ ap (λ (rest : List Line). left .done ++ rest) (turn calls refl) ∙ sym (append-assoc (left .done) line _)
 
-      pub after-last : last ≡ true → next ≡ tallyOf (linesOf s)
+      pub after-last : last ≡ true → next ≡ tallyOf (linesOf c s)
       after-last h = so-far ∙ ap tallyOf (sym (rw (sym t ∙ h) at all-lines ∙ append-nil _))
 
-      pub after-other : last ≡ false → Counted s next (calls - 1) (linesIn more)
+      pub after-other : last ≡ false → Counted c s next (calls - 1) (linesIn more)
       after-other h =
           record {
             done = left .done ++ line;

@@ -18,7 +18,7 @@ keptOf values = record { count = length values; first = firstOf values }
 
 unfoldable pub tallyOf : List Line → Tally
 tallyOf lines =
-    record { frames = keptOf (ratesIn lines); refused = table 8 (λ n. keptOf (bytesIn n lines)); end = endIn lines; junk = junkIn lines }
+    record { frames = keptOf (ratesIn lines); refused = table 16 (λ n. keptOf (bytesIn n lines)); end = endIn lines; junk = junkIn lines }
 
 -- ---- one more
 
@@ -26,7 +26,7 @@ abbrev pub keepOf : Kept → ℕ → Kept
 keepOf kept value = record { count = kept .count + 1; first = cond (eqb (kept .count) 0) value (kept .first) }
 
 abbrev pub keepAt : List Kept → ℕ → ℕ → List Kept
-keepAt refused number value = cond (ltb number 8) (set refused number (keepOf (getD refused number (keptOf [])) value)) refused
+keepAt refused number value = cond (ltb number 16) (set refused number (keepOf (getD refused number (keptOf [])) value)) refused
 
 -- up to the first frame's line
 abbrev pub junkMore : Tally → ℕ → ℕ

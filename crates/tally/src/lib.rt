@@ -1,5 +1,6 @@
 // What a listing adds up to, by a pass of its own over the calls.
 use listing::Line;
+use readings::Reading;
 use verdict::Asked;
 use verdict::Heading;
 ghost use mathlib.Core.Path.{_≡_};
@@ -16,11 +17,11 @@ pub struct Kept {
     pub first: usize,
 }
 
-// The frames with their rates; for each number below 8 the calls refused with it, with their bytes; the number that ended the listing;
+// The frames with their rates; for each number below 16 the calls refused with it, with their bytes; the number that ended the listing;
 // the bytes of junk in front.
 pub struct Tally {
     pub frames: Kept,
-    pub refused: [Kept; 8],
+    pub refused: [Kept; 16],
     pub end: u32,
     pub junk: usize,
 }
@@ -43,12 +44,12 @@ fn keep(kept: Kept, value: usize) -> Kept
     }
 }
 
-fn keep_at(refused: [Kept; 8], number: usize, value: usize) -> [Kept; 8]
+fn keep_at(refused: [Kept; 16], number: usize, value: usize) -> [Kept; 16]
     requires { ⌜ Few refused ⌝ }
     ensures { λ r. ⌜ r ≡ keepAt refused number value ⌝ }
 {
     let mut kept = refused;
-    if number < 8 {
+    if number < 16 {
         kept[number] = keep(refused[number], value);
     }
     kept
@@ -109,7 +110,7 @@ fn nothing() -> Tally
     ensures { λ r. ⌜ r ≡ tallyOf [] ⌝ }
 {
     let none = Kept { count: 0, first: 0 };
-    let refused = [none; 8];
+    let refused = [none; 16];
     Tally {
         frames: none,
         refused,
@@ -140,11 +141,10 @@ fn opening(opened: Asked) -> Tally
     }
 }
 
-pub fn count(stream: &[u8]) -> Tally
+pub fn count(stream: &[u8], reading: Reading) -> Tally
     requires { ⌜ length (now stream) ≤ 65536 ⌝ }
-    ensures { λ r. ⌜ r ≡ tallyOf (linesOf (now (stream .entry))) ⌝ }
+    ensures { λ r. ⌜ r ≡ tallyOf (linesOf reading (now (stream .entry))) ⌝ }
 {
-    let reading = header::plain();
     let mut memory = [0.0f32; synthesis::MEMORY];
     let mut output = [0.0f32; synthesis::OUTPUT];
     let opened = audio::new(stream, &mut memory, reading);

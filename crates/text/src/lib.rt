@@ -4,6 +4,7 @@ pub mod checksum;
 use buffer::BytePos;
 use listing::Behind;
 use listing::Line;
+use readings::Reading;
 use scribe::Whole;
 use scribe::Written;
 ghost use mathlib.Core.Path.{_≡_};
@@ -153,6 +154,12 @@ pub fn put_reason(stream: &[u8], what: Whole, done: Written, number: u32) -> Wri
             b"another bit rate, sample rate or mode than the first",
         ),
         7 => scribe::put(stream, what, done, b"the last frame is cut off"),
+        13 => scribe::put(
+            stream,
+            what,
+            done,
+            b"a bit rate that the standard does not have in this mode",
+        ),
         _ => scribe::put(stream, what, done, b"a mistake of the caller"),
     }
 }
@@ -195,15 +202,22 @@ fn put_words(stream: &[u8], what: Whole, done: Written, line: Line) -> Written
 }
 
 // What stands behind a line, where it is asked for.
-fn put_behind(stream: &[u8], behind: Behind, done: Written, line: Line, samples: &[f32]) -> Written
-    requires { ⌜ length (listingOf behind (now stream)) < 2 ^ 64 ⌝ }
-    requires { ⌜ Next (listingOf behind (now stream)) (done .bytes) (behindOf behind line (now samples)) ⌝ }
+fn put_behind(
+    stream: &[u8],
+    what: Whole,
+    behind: Behind,
+    done: Written,
+    line: Line,
+    samples: &[f32],
+) -> Written
+    requires { ⌜ length (wholeOf what (now stream)) < 2 ^ 64 ⌝ }
+    requires { ⌜ Next (wholeOf what (now stream)) (done .bytes) (behindOf behind line (now samples)) ⌝ }
     ensures { λ r. ⌜ r .bytes ≡ done .bytes + length (behindOf behind line (now (samples .entry))) ⌝ }
 {
     match behind {
         Behind::Nothing => done,
-        Behind::Marks => put_marks(stream, Whole::Lines(behind), done, line, samples),
-        Behind::Words => put_words(stream, Whole::Lines(behind), done, line),
+        Behind::Marks => put_marks(stream, what, done, line, samples),
+        Behind::Words => put_words(stream, what, done, line),
     }
 }
 
@@ -251,16 +265,18 @@ fn put_bare(stream: &[u8], what: Whole, done: Written, line: Line) -> Written
 
 pub fn put_line(
     stream: &[u8],
+    reading: Reading,
     behind: Behind,
     done: Written,
     line: Line,
     samples: &[f32],
 ) -> Written
-    requires { ⌜ length (listingOf behind (now stream)) < 2 ^ 64 ⌝ }
-    requires { ⌜ Next (listingOf behind (now stream)) (done .bytes) (textBy behind line (now samples)) ⌝ }
+    requires { ⌜ length (listingOf reading behind (now stream)) < 2 ^ 64 ⌝ }
+    requires { ⌜ Next (listingOf reading behind (now stream)) (done .bytes) (textBy behind line (now samples)) ⌝ }
     ensures { λ r. ⌜ r .bytes ≡ done .bytes + length (textBy behind line (now (samples .entry))) ⌝ }
 {
-    let bare = put_bare(stream, Whole::Lines(behind), done, line);
-    let told = put_behind(stream, behind, bare, line, samples);
-    scribe::put(stream, Whole::Lines(behind), told, b"\n")
+    let what = Whole::Lines(reading, behind);
+    let bare = put_bare(stream, what, done, line);
+    let told = put_behind(stream, what, behind, bare, line, samples);
+    scribe::put(stream, what, told, b"\n")
 }

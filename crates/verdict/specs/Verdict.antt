@@ -1,5 +1,5 @@
--- What a call asks before a frame is decoded: a header, pending or sought (1 to 6), and its data (7). And what a question about the
--- format asks. From 01, "Numbers a call can give": order 8, 9, 10, then 1 to 6 as the header is read, then 7. Assumes nothing.
+-- What a call asks before a frame is decoded: a header, pending or sought (1 to 6, 13), and its data (7). And what a question about the
+-- format asks. From 01, "Numbers a call can give": order 8, 9, 10, then 1 to 6 as the header is read, then 7; and 02, E3. Assumes nothing.
 use Prim.Native.Nat.{ℕ, _*_}
 use mathlib.Core.Bool.{cond}
 use mathlib.Core.List.{List}

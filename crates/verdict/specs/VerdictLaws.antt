@@ -17,6 +17,7 @@ use Rattle.buffer.specs.Calls.{hasOf, left}
 use Rattle.buffer.specs.declared.Holds.{Holds}
 use Rattle.buffer.specs.declared.Holds.the-variants.{Yes, No, Refused as HoldsRefused}
 use Rattle.buffer.specs.declared.Reader.{Reader}
+use Rattle.readings.specs.Pairs.{barred}
 use Rattle.header.specs.Header.{headerOf, mostData, passedBy}
 use Rattle.header.specs.Accepted.{Extended, Good, GoodHeader, header-good}
 use Rattle.header.specs.Moves.{attempt-moves, few-bits-stay}
@@ -57,26 +58,33 @@ pub record Sound (a : Audio) : Type 0 where
   -- the bound of a pending header, which is not yet cut, is that of its mode and of a mode extension
   pub extension : (a .pending ≡ 0 → ⊥) → Extended (a .format .mode) (a .format .bound)
   pub time : a .time ≡ startTimeOf (a .frames) (a .format .samplerate)
+  -- 02, E3: the bit rate of a known format is none that its reading refuses in its mode
+  pub pair : (a .format .samplerate ≡ 3 → ⊥) → barred (a .format .reading) (a .format .bitrate) (a .format .mode) ≡ false
 
 pub record Kept (a : Audio) (x : Asked) : Type 0 where
   pub ranged : Ranged (x .state)
   pub sound : Sound a → Sound (x .state)
   pub frames : x .state .frames ≡ a .frames
+  pub reading : x .state .format .reading ≡ a .format .reading
   pub some : x .answer ≡ Known → x .state .pending ≡ 0 → ⊥
 
-pub refused-kept : {a : Audio} (k n : ℕ) (b : Audio) → Ranged b → (Sound a → Sound b) → b .frames ≡ a .frames → Kept a (asked k (Refused n) b)
-refused-kept k n b r w f = record { ranged = r; sound = w; frames = f; some = λ e. absurd (let z : _≡_ {A = ℕ} 0 1 = cc in omega arith) }
+pub refused-kept : {a : Audio} (k n : ℕ) (b : Audio) → Ranged b → (Sound a → Sound b) → b .frames ≡ a .frames
+    → b .format .reading ≡ a .format .reading → Kept a (asked k (Refused n) b)
+refused-kept k n b r w f c =
+    record { ranged = r; sound = w; frames = f; reading = c; some = λ e. absurd (let z : _≡_ {A = ℕ} 0 1 = cc in omega arith) }
 
 module _ (k : ℕ) (a : Audio) (r : Reader) (w : Ranged a) (near : r .at .0 ≤ farthestBit) (few : a .frames * 16 ≤ r .at .0) where
   moved : (n : ℕ) → Kept a (seeking k a r (HeaderRefused n))
-  moved n = refused-kept k n _ (stands-ranged a r w near few) (λ h. record { extension = h .extension; time = h .time }) refl
+  moved n = refused-kept k n _ (stands-ranged a r w near few) (λ h. record { extension = h .extension; time = h .time; pair = h .pair }) refl refl
 
   accepted : (f : Format) (n : ℕ) → Good (a .format) f n → Kept a (seeking k a r (Accepted f n))
   accepted f n g =
       record {
         ranged = pends-ranged a r w near few f n g;
-        sound = λ h. record { extension = λ _. g .extension; time = h .time ∙ same-start a w f n g };
+        sound =
+            λ h. record { extension = λ _. g .extension; time = h .time ∙ same-start a w f n g; pair = λ _. rw (g .reading) (g .pair) };
         frames = refl;
+        reading = g .reading;
         some = λ _ e. omega arith;
       }
 
@@ -102,7 +110,7 @@ module _ (s : List ℕ) (short : length s ≤ longestStream) (a : Audio) (w : Ra
   unfolding headedOf
   headed-kept =
       by-test (Kept a) (eqb (a .pending) 0) _ _ (λ _. attempt-kept)
-      (λ e. record { ranged = w; sound = λ h. h; frames = refl; some = λ _. eqb-false _ _ e })
+      (λ e. record { ranged = w; sound = λ h. h; frames = refl; reading = refl; some = λ _. eqb-false _ _ e })
 
 -- ---- the walk
 
@@ -128,7 +136,7 @@ pub data Heads (s : List ℕ) (a : Audio) : ℕ → Audio → Type 0 where
   waits : (a .pending ≡ 0 → ⊥) → Heads s a 0 a
   accepts : {k : ℕ} {b : Audio} → a .pending ≡ 0 → attemptOf s a ≡ asked k Known b → Heads s a k b
 
--- how the verdict ends: refused at once; refused with 1 to 6 as a header is sought; with 7 after the header; or with all that a frame
+-- how the verdict ends: refused at once; refused with 1 to 6 or 13 as a header is sought; with 7 after the header; or with all that a frame
 -- asks for
 pub data Verdict (s : List ℕ) (memory output : ℕ) (a : Audio) : Asked → Type 0 where
   at-once : {n : ℕ} → AtOnce s memory output a n → Verdict s memory output a (asked 0 (Refused n) a)
@@ -241,9 +249,9 @@ module _ (s : List ℕ) (memory output : ℕ) (a : Audio) where
 -- ---- what comes of it
 
 pub verdict-kept : {s : List ℕ} {memory output : ℕ} {a : Audio} {x : Asked} → Ranged a → Verdict s memory output a x → Kept a x
-verdict-kept {a = a} w (at-once {n} h) = refused-kept 0 n a w (λ h. h) refl
+verdict-kept {a = a} w (at-once {n} h) = refused-kept 0 n a w (λ h. h) refl refl
 verdict-kept {s} {a = a} w (no-header c z e) = subst (Kept a) e (attempt-kept s (c .room .short) a w)
-verdict-kept w (cut-off {k} {b} c h l) = let kept = heads-kept c h in refused-kept k 7 b (kept .ranged) (kept .sound) (kept .frames)
+verdict-kept w (cut-off {k} {b} c h l) = let kept = heads-kept c h in refused-kept k 7 b (kept .ranged) (kept .sound) (kept .frames) (kept .reading)
 verdict-kept w (whole c h l) = heads-kept c h
 
 -- what holds of the state with no byte passed over, and of what an attempt leaves and passes, holds of the verdict's

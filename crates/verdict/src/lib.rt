@@ -1,4 +1,4 @@
-// What a call asks before a frame is decoded: 8, 9, 10, then a header, pending or sought (1 to 6), and its data (7). And what a
+// What a call asks before a frame is decoded: 8, 9, 10, then a header, pending or sought (1 to 6, 13), and its data (7). And what a
 // question about the format asks.
 use buffer::Holds;
 use buffer::LONGEST_STREAM;

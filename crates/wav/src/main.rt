@@ -66,7 +66,7 @@ fn play() {
         os::fail(b"standard output");
         return;
     }
-    summary::tell(&stream[..n]);
+    summary::tell(&stream[..n], readings::plain());
 }
 
 fn main() {

@@ -16,15 +16,12 @@ use Rattle.report.proofs.list.Tie as tie
 
 -- what is left to write is what the calls that are left will give
 abbrev Inv-loop : tie.InvT-loop
-Inv-loop stream behind memory₀ output₀ done₀ state₀ carried₀ calls₀ memory output done state carried calls =
+Inv-loop stream reading behind memory₀ output₀ done₀ state₀ carried₀ calls₀ memory output done state carried calls =
     (length memory ≡ memoryLength) × (length output ≡ outputLength) × (carried ≤ length stream)
-    × Rest (listingOf behind stream) (done .bytes) (textsOf behind (shownFrom calls stream memory output carried state))
+    × Rest (listingOf reading behind stream) (done .bytes) (textsOf behind (shownFrom calls stream memory output carried state))
 
 abbrev μ-loop : tie.MeasureT-loop
-μ-loop stream behind memory₀ output₀ done₀ state₀ carried₀ calls₀ memory output done state carried calls = calls
-
-plain-requires : tie.Need-plain-requires Inv-loop μ-loop
-plain-requires c κs = search needs
+μ-loop stream reading behind memory₀ output₀ done₀ state₀ carried₀ calls₀ memory output done state carried calls = calls
 
 slice-aggregate-new : tie.Need-slice-aggregate-new Inv-loop μ-loop
 slice-aggregate-new c = search needs
@@ -39,9 +36,9 @@ put-opening-requires : tie.Need-put-opening-requires Inv-loop μ-loop
 unfolding ofBits
 put-opening-requires c κs =
     let at-new = c .before .before in
-    let entry = at-new .before .before .before .before in
+    let entry = at-new .before .before .before in
     let e = at-new .new .ensures in
-    (listing-fits _ _, opening-next _ _ _ _ _ (entry .pre) (at-new .before .before .plain .ensures) (e .0) (e .1) _ refl _ (c .nothing-yet .ensures .0))
+    (listing-fits _ _ _, opening-next _ _ _ _ _ (entry .pre) (e .0) (e .1) _ refl _ (c .nothing-yet .ensures .0))
 
 carried-requires : tie.Need-carried-requires Inv-loop μ-loop
 carried-requires c κs = search needs
@@ -54,13 +51,12 @@ unfolding ofBits
 loop-holds c =
     let begun = c .before .before .before in
     let at-new = begun .before .before in
-    let entry = at-new .before .before .before .before in
-    let e = at-new .new .ensures in
-    let plainly = at-new .before .before .plain .ensures in (
+    let entry = at-new .before .before .before in
+    let e = at-new .new .ensures in (
       search needs,
       search needs,
       opening-carries-few _ _ _ _ _ (e .0) (c .carried .ensures),
-      calls-rest _ _ _ _ _ (entry .pre) plainly (e .0) (e .1) _ (c .carried .ensures) _ _ (begun .nothing-yet .ensures .0)
+      calls-rest _ _ _ _ _ (entry .pre) (e .0) (e .1) _ (c .carried .ensures) _ _ (begun .nothing-yet .ensures .0)
           (c .before .before .put-opening .ensures),
     )
 
@@ -84,7 +80,7 @@ put-line-requires c κs =
     let called = c .before .before .before .before in
     let head = called .before .before .before .before in
     let e = called .next-line .ensures in
-    (listing-fits _ _, line-next _ _ _ _ _ _ _ (head .loop .inv .3) _ _ _ (omega arith) (e .0) (e .1 .0) (e .1 .1))
+    (listing-fits _ _ _, line-next _ _ _ _ _ _ _ (head .loop .inv .3) _ _ _ (omega arith) (e .0) (e .1 .0) (e .1 .1))
 
 is-last-requires : tie.Need-is-last-requires Inv-loop μ-loop
 is-last-requires c κs = search needs
@@ -123,7 +119,6 @@ list-spec =
     (tie.spec
     Inv-loop
     μ-loop
-    plain-requires
     slice-aggregate-new
     new-requires
     nothing-yet-requires

@@ -18,13 +18,13 @@ slice-aggregate-put-line : tie.Need-slice-aggregate-put-line
 slice-aggregate-put-line c = search needs
 
 put-line-requires : tie.Need-put-line-requires
-put-line-requires c κs = (listing-fits _ _, long-next _ _ (omega arith) _ (c .before .nothing-yet .ensures .0))
+put-line-requires c κs = (listing-fits _ _ _, long-next _ _ _ (omega arith) _ (c .before .nothing-yet .ensures .0))
 
 returns-2 : tie.Need-returns-2
 returns-2 c =
     let begun = c .before .before in
     let a = begun .before .before .before .args in
-    omega (arith, c .put-line .ensures, begun .nothing-yet .ensures .0, long-only (a .behind) (a .stream .now) (omega arith))
+    omega (arith, c .put-line .ensures, begun .nothing-yet .ensures .0, long-only (a .reading) (a .behind) (a .stream .now) (omega arith))
 
 pub whole-spec : {M : Type 1} → statement M
 whole-spec =

@@ -3,16 +3,17 @@ use mathlib.Core.List.{_++_}
 use native.Mathlib.Omega.{arith}
 use lib.ListN.{length, length-append}
 use borrow.Author.Needs.{needs}
-use Rattle.listing.specs.Summary.{countedText, summaryOf}
+use Rattle.listing.specs.Summary.{countedText}
 use Rattle.listing.specs.Text.{numbered}
 use Rattle.scribe.specs.Next.{Next, first-next, second-next}
+use Rattle.scribe.specs.Whole.{wholeOf}
 use Rattle.summary.proofs.Pieces.{fits-next, fits-first}
 use Rattle.summary.proofs.Parts.{pluralOf, one-thing, many-things}
 use Rattle.summary.proofs.put_counted.Statement.{statement}
 use Rattle.summary.proofs.put_counted.Tie as tie
 
 behind-number : (c : tie.After-put-number) → let a = c .before .before .before .before .args in
-    Next (summaryOf (a .stream .now)) (c .put-number .result .bytes) (a .things .now ++ pluralOf (a .n))
+    Next (wholeOf (a .what) (a .stream .now)) (c .put-number .result .bytes) (a .things .now ++ pluralOf (a .n))
 unfolding countedText
 behind-number c =
     let entry = c .before .before .before .before in

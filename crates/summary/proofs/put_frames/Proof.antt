@@ -3,16 +3,17 @@ use mathlib.Core.List.{[], _++_}
 use native.Mathlib.Omega.{arith}
 use lib.ListN.{length, length-append}
 use borrow.Author.Needs.{needs}
-use Rattle.listing.specs.Summary.{countedText, hundredthsOf, secondsText, summaryOf}
+use Rattle.listing.specs.Summary.{countedText, hundredthsOf, secondsText}
 use Rattle.listing.specs.Words.{letters}
 use Rattle.scribe.specs.Next.{Next, first-next, second-next}
+use Rattle.scribe.specs.Whole.{wholeOf}
 use Rattle.summary.proofs.Pieces.{fits-next}
 use Rattle.summary.proofs.Parts.{no-frame, some-frames}
 use Rattle.summary.proofs.put_frames.Statement.{statement}
 use Rattle.summary.proofs.put_frames.Tie as tie
 
 both-next : (c : tie.Else1) → let a = c .before .before .before .args in
-    Next (summaryOf (a .stream .now)) (a .done .bytes)
+    Next (wholeOf (a .what) (a .stream .now)) (a .done .bytes)
     (countedText [] (a .frames .count) (letters " frame") ++ secondsText (hundredthsOf (a .frames .count) (a .frames .first)))
 both-next c = subst (Next _ _) (some-frames _ _ (c .if1 .left)) (c .before .before .before .pre .1)
 

@@ -3,16 +3,17 @@ use mathlib.Core.List.{_++_}
 use native.Mathlib.Omega.{arith}
 use lib.ListN.{length, length-append}
 use borrow.Author.Needs.{needs}
-use Rattle.listing.specs.Summary.{countedText, summaryOf}
+use Rattle.listing.specs.Summary.{countedText}
 use Rattle.listing.specs.Words.{letters}
 use Rattle.scribe.specs.Next.{Next, first-next, second-next}
+use Rattle.scribe.specs.Whole.{wholeOf}
 use Rattle.summary.proofs.Parts.{no-junk, some-junk}
 use Rattle.summary.proofs.Pieces.{fits-next}
 use Rattle.summary.proofs.put_junk.Statement.{statement}
 use Rattle.summary.proofs.put_junk.Tie as tie
 
 both-next : (c : tie.Else1) → let a = c .before .before .args in
-    Next (summaryOf (a .stream .now)) (a .done .bytes) (countedText (letters "; ") (a .bytes) (letters " byte") ++ letters " of junk in front")
+    Next (wholeOf (a .what) (a .stream .now)) (a .done .bytes) (countedText (letters "; ") (a .bytes) (letters " byte") ++ letters " of junk in front")
 both-next c = subst (Next _ _) (some-junk _ (c .if1 .left)) (c .before .before .pre .1)
 
 returns : tie.Need-returns

@@ -2,23 +2,24 @@ use mathlib.Core.List.{_++_}
 use native.Mathlib.Omega.{arith}
 use lib.ListN.{length-append}
 use borrow.Author.Needs.{needs}
-use Rattle.listing.specs.Summary.{reasonText, summaryOf}
+use Rattle.listing.specs.Summary.{reasonText}
 use Rattle.listing.specs.Text.{numbered, bracketed}
 use Rattle.listing.specs.Words.{letters, reasonOf}
 use Rattle.scribe.specs.Next.{Next, first-next, second-next}
+use Rattle.scribe.specs.Whole.{wholeOf}
 use Rattle.summary.proofs.Pieces.{fits-next, fits-first}
 use Rattle.summary.proofs.put_reason.Statement.{statement}
 use Rattle.summary.proofs.put_reason.Tie as tie
 
 behind-number : (c : tie.After-put-number) → let a = c .before .before .before .args in
-    Next (summaryOf (a .stream .now)) (c .put-number .result .bytes) (letters " (" ++ (reasonOf (a .number) ++ letters ")"))
+    Next (wholeOf (a .what) (a .stream .now)) (c .put-number .result .bytes) (letters " (" ++ (reasonOf (a .number) ++ letters ")"))
 unfolding reasonText bracketed
 behind-number c =
     let entry = c .before .before .before in
     second-next (numbered (entry .args .word .now) (entry .args .number)) _ (c .put-number .ensures) (entry .pre .1)
 
 behind-bracket : (c : tie.After-put) → let a = c .before .before .before .before .before .args in
-    Next (summaryOf (a .stream .now)) (c .put .result .bytes) (reasonOf (a .number) ++ letters ")")
+    Next (wholeOf (a .what) (a .stream .now)) (c .put .result .bytes) (reasonOf (a .number) ++ letters ")")
 behind-bracket c = second-next (letters " (") _ (c .put .ensures) (behind-number (c .before .before))
 
 put-number-requires : tie.Need-put-number-requires

@@ -3,22 +3,23 @@ use mathlib.Core.List.{_++_}
 use native.Mathlib.Omega.{arith}
 use lib.ListN.{length, length-append}
 use borrow.Author.Needs.{needs}
-use Rattle.listing.specs.Summary.{countedText, reasonText, summaryOf}
+use Rattle.listing.specs.Summary.{countedText, reasonText}
 use Rattle.listing.specs.Text.{numbered}
 use Rattle.listing.specs.Words.{letters}
 use Rattle.scribe.specs.Next.{Next, first-next, second-next}
+use Rattle.scribe.specs.Whole.{wholeOf}
 use Rattle.summary.proofs.Parts.{no-refusal, some-refusals}
 use Rattle.summary.proofs.put_refusal.Statement.{statement}
 use Rattle.summary.proofs.put_refusal.Tie as tie
 
 all-next : (c : tie.Else1) → let a = c .before .before .before .args in
-    Next (summaryOf (a .stream .now)) (a .done .bytes)
+    Next (wholeOf (a .what) (a .stream .now)) (a .done .bytes)
     (countedText (letters "; ") (a .refused .count) (letters " call")
     ++ (reasonText (letters " refused with ") (a .number) ++ numbered (letters " from byte ") (a .refused .first)))
 all-next c = subst (Next _ _) (some-refusals _ _ _ (c .if1 .left)) (c .before .before .before .pre .1)
 
 behind-count : (c : tie.After-put-counted) → let a = c .before .before .before .before .before .before .before .args in
-    Next (summaryOf (a .stream .now)) (c .put-counted .result .bytes)
+    Next (wholeOf (a .what) (a .stream .now)) (c .put-counted .result .bytes)
     (reasonText (letters " refused with ") (a .number) ++ numbered (letters " from byte ") (a .refused .first))
 behind-count c =
     let asked = c .before .before .before .before in

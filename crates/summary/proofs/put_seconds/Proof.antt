@@ -3,30 +3,31 @@ use mathlib.Core.List.{[], _++_}
 use native.Mathlib.Omega.{arith}
 use lib.ListN.{length-append}
 use borrow.Author.Needs.{needs}
-use Rattle.listing.specs.Summary.{secondsText, summaryOf}
+use Rattle.listing.specs.Summary.{secondsText}
 use Rattle.listing.specs.Text.{numbered}
 use Rattle.listing.specs.Words.{letters}
 use Rattle.scribe.specs.Next.{Next, first-next, second-next}
+use Rattle.scribe.specs.Whole.{wholeOf}
 use Rattle.summary.proofs.Pieces.{fits-next}
 use Rattle.summary.proofs.put_seconds.Statement.{statement}
 use Rattle.summary.proofs.put_seconds.Tie as tie
 
 -- what is left behind each number
 behind-whole : (c : tie.After-put-number) → let a = c .before .before .before .args in
-    Next (summaryOf (a .stream .now)) (c .put-number .result .bytes)
+    Next (wholeOf (a .what) (a .stream .now)) (c .put-number .result .bytes)
     (numbered (letters ".") (a .n / 10 % 10) ++ (numbered [] (a .n % 10) ++ letters " s"))
 unfolding secondsText
 behind-whole c =
     let entry = c .before .before .before in second-next (numbered (letters ", ") (entry .args .n / 100)) _ (c .put-number .ensures) (entry .pre .1)
 
 behind-tenth : (c : tie.After-put-number2) → let a = c .before .before .before .before .before .args in
-    Next (summaryOf (a .stream .now)) (c .put-number2 .result .bytes) (numbered [] (a .n % 10) ++ letters " s")
+    Next (wholeOf (a .what) (a .stream .now)) (c .put-number2 .result .bytes) (numbered [] (a .n % 10) ++ letters " s")
 behind-tenth c =
     let before = c .before .before in
     second-next (numbered (letters ".") (before .before .before .before .args .n / 10 % 10)) _ (c .put-number2 .ensures) (behind-whole before)
 
 behind-hundredth : (c : tie.After-put-number3) → let a = c .before .before .before .before .before .before .before .args in
-    Next (summaryOf (a .stream .now)) (c .put-number3 .result .bytes) (letters " s")
+    Next (wholeOf (a .what) (a .stream .now)) (c .put-number3 .result .bytes) (letters " s")
 behind-hundredth c =
     let before = c .before .before in
     second-next (numbered [] (before .before .before .before .before .before .args .n % 10)) _ (c .put-number3 .ensures) (behind-tenth before)

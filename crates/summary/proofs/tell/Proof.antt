@@ -26,14 +26,14 @@ slice-aggregate-put c = search needs
 put-requires : tie.Need-put-requires
 put-requires c κs =
     let begun = c .before in
-    fits-next (summary-fits _)
-    (rest-next (letters "too long: 65,536 bytes at most\n") [] (nothing-written (begun .nothing-yet .ensures .0) (long-summary _ (omega arith))))
+    fits-next (summary-fits _ _)
+    (rest-next (letters "too long: 65,536 bytes at most\n") [] (nothing-written (begun .nothing-yet .ensures .0) (long-summary _ _ (omega arith))))
 
 returns-2 : tie.Need-returns-2
 returns-2 c =
     let begun = c .before .before in
-    let s = begun .before .before .before .args .stream .now in
-    omega (arith, c .put .ensures, begun .nothing-yet .ensures .0, ap length (long-summary s (omega arith)))
+    let a = begun .before .before .before .args in
+    omega (arith, c .put .ensures, begun .nothing-yet .ensures .0, ap length (long-summary (a .reading) (a .stream .now) (omega arith)))
 
 pub tell-spec : {M : Type 1} → statement M
 tell-spec =

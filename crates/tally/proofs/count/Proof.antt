@@ -5,23 +5,34 @@ use lib.Ieee.{ofBits}
 use lib.ListN.{length}
 use borrow.Author.Needs.{needs}
 use Rattle.synthesis.specs.Slots.{memoryLength, outputLength}
+use Rattle.readings.specs.declared.Reading.{Reading}
 use Rattle.listing.specs.Lines.{shownFrom, linesIn}
 use Rattle.listing.specs.LinesLaws.{opening-carries-few}
 use Rattle.tally.proofs.Turns.{Counted, begins, none-left, room-left, after-last, after-other}
 use Rattle.tally.proofs.count.Statement.{statement}
 use Rattle.tally.proofs.count.Tie as tie
 
--- what is left to add is what the calls that are left will give
+-- what is left to add is what the calls that are left will give; the loop does not know the reading
 abbrev Inv-loop : tie.InvT-loop
 Inv-loop stream memory₀ output₀ tally₀ state₀ carried₀ calls₀ memory output tally state carried calls =
     (length memory ≡ memoryLength) × (length output ≡ outputLength) × (carried ≤ length stream)
-    × Counted stream tally calls (linesIn (shownFrom calls stream memory output carried state))
+    × ((r : Reading) → Counted r stream tally₀ calls₀ (linesIn (shownFrom calls₀ stream memory₀ output₀ carried₀ state₀))
+    → Counted r stream tally calls (linesIn (shownFrom calls stream memory output carried state)))
 
 abbrev μ-loop : tie.MeasureT-loop
 μ-loop stream memory₀ output₀ tally₀ state₀ carried₀ calls₀ memory output tally state carried calls = calls
 
-plain-requires : tie.Need-plain-requires Inv-loop μ-loop
-plain-requires c κs = search needs
+-- so it is in the one that was asked for
+so-far : (c : tie.At-loop Inv-loop μ-loop) → let l = c .loop in let a = c .before .before .before .before .before .before .before .before .args in
+    Counted (a .reading) (a .stream .now) (l .tally) (l .calls) (linesIn (shownFrom (l .calls) (a .stream .now) (l .memory) (l .output) (l .carried) (l .state)))
+unfolding ofBits
+so-far c =
+    let begun = c .before in
+    let at-new = begun .before .before .before .before in
+    let entry = at-new .before .before .before in
+    let e = at-new .new .ensures in
+    c .loop .inv .3 (entry .args .reading)
+    (begins _ _ _ _ _ (entry .pre) (e .0) (e .1) (begun .before .before .opening .ensures) _ (begun .carried .ensures))
 
 slice-aggregate-new : tie.Need-slice-aggregate-new Inv-loop μ-loop
 slice-aggregate-new c = search needs
@@ -39,17 +50,8 @@ add-calls : tie.Need-add-calls Inv-loop μ-loop
 add-calls c = search needs
 
 loop-holds : tie.Need-loop-holds Inv-loop μ-loop
-unfolding ofBits
 loop-holds c =
-    let at-new = c .before .before .before .before in
-    let entry = at-new .before .before .before .before in
-    let e = at-new .new .ensures in
-    let plainly = at-new .before .before .plain .ensures in (
-      search needs,
-      search needs,
-      opening-carries-few _ _ _ _ _ (e .0) (c .carried .ensures),
-      begins _ _ _ _ _ (entry .pre) plainly (e .0) (e .1) (c .before .before .opening .ensures) _ (c .carried .ensures),
-    )
+    (search needs, search needs, opening-carries-few _ _ _ _ _ (c .before .before .before .before .new .ensures .0) (c .carried .ensures), λ r begun. begun)
 
 sub-calls : tie.Need-sub-calls Inv-loop μ-loop
 sub-calls c = search needs
@@ -67,9 +69,9 @@ add-requires : tie.Need-add-requires Inv-loop μ-loop
 add-requires c κs =
     let called = c .before .before .before in
     let head = called .before .before .before .before in
-    let short = head .before .before .before .before .before .before .before .before .before .pre in
+    let short = head .before .before .before .before .before .before .before .before .pre in
     let e = called .next-line .ensures in
-    room-left _ _ _ _ _ _ _ short (head .loop .inv .3) (head .loop .inv .2) _ _ _ (omega arith) (e .0) (e .1 .0) (e .1 .1)
+    room-left _ _ _ _ _ _ _ _ short (so-far head) (head .loop .inv .2) _ _ _ (omega arith) (e .0) (e .1 .0) (e .1 .1)
 
 is-last-requires : tie.Need-is-last-requires Inv-loop μ-loop
 is-last-requires c κs = search needs
@@ -82,28 +84,28 @@ loop-again c =
     let put = c .before .before in
     let called = put .before .before .before .before in
     let head = called .before .before .before .before in
-    let short = head .before .before .before .before .before .before .before .before .before .pre in
+    let short = head .before .before .before .before .before .before .before .before .pre in
     let e = called .next-line .ensures in (
       search needs,
       search needs,
       search needs,
-      after-other _ _ _ _ _ _ _ short (head .loop .inv .3) (head .loop .inv .2) _ _ _ (omega arith) (e .0) (e .1 .0) (e .1 .1) _ _ (put .add .ensures)
+      λ r begun. after-other _ _ _ _ _ _ _ _ short (head .loop .inv .3 r begun) (head .loop .inv .2) _ _ _ (omega arith) (e .0) (e .1 .0) (e .1 .1) _ _ (put .add .ensures)
           (c .before .is-last .ensures) (c .if1 .left),
     )
 
 returns : tie.Need-returns Inv-loop μ-loop
 returns c =
     let head = c .before in
-    none-left _ _ _ _ _ _ _ (head .before .before .before .before .before .before .before .before .before .pre) (head .loop .inv .3) (omega arith)
+    none-left _ _ _ _ _ _ _ _ (head .before .before .before .before .before .before .before .before .pre) (so-far head) (omega arith)
 
 returns-2 : tie.Need-returns-2 Inv-loop μ-loop
 returns-2 c =
     let put = c .before .before in
     let called = put .before .before .before .before in
     let head = called .before .before .before .before in
-    let short = head .before .before .before .before .before .before .before .before .before .pre in
+    let short = head .before .before .before .before .before .before .before .before .pre in
     let e = called .next-line .ensures in
-    after-last _ _ _ _ _ _ _ short (head .loop .inv .3) (head .loop .inv .2) _ _ _ (omega arith) (e .0) (e .1 .0) (e .1 .1) _ _ (put .add .ensures)
+    after-last _ _ _ _ _ _ _ _ short (so-far head) (head .loop .inv .2) _ _ _ (omega arith) (e .0) (e .1 .0) (e .1 .1) _ _ (put .add .ensures)
     (c .before .is-last .ensures) (c .if1 .taken)
 
 pub count-spec : {M : Type 1} → statement M
@@ -112,7 +114,6 @@ count-spec =
     (tie.spec
     Inv-loop
     μ-loop
-    plain-requires
     slice-aggregate-new
     new-requires
     opening-requires

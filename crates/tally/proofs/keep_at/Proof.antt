@@ -10,11 +10,11 @@ use Rattle.tally.specs.declared.Kept.{Kept}
 use Rattle.tally.proofs.keep_at.Statement.{statement}
 use Rattle.tally.proofs.keep_at.Tie as tie
 
-inside : (xs : List Kept) (n value : ℕ) (kept : Kept) → n < 8 → kept ≡ keepOf (getD xs n (keptOf [])) value → set xs n kept ≡ keepAt xs n value
-inside xs n value kept l e = rw (lt-ltb n 8 l, e)
+inside : (xs : List Kept) (n value : ℕ) (kept : Kept) → n < 16 → kept ≡ keepOf (getD xs n (keptOf [])) value → set xs n kept ≡ keepAt xs n value
+inside xs n value kept l e = rw (lt-ltb n 16 l, e)
 
-outside : (xs : List Kept) (n value : ℕ) → 8 ≤ n → xs ≡ keepAt xs n value
-outside xs n value l = rw (le-ltb n 8 l)
+outside : (xs : List Kept) (n value : ℕ) → 16 ≤ n → xs ≡ keepAt xs n value
+outside xs n value l = rw (le-ltb n 16 l)
 
 mul-keep : tie.Need-mul-keep
 mul-keep c = search needs

@@ -8,7 +8,7 @@ use Rattle.text.proofs.put_line.Statement.{statement}
 use Rattle.text.proofs.put_line.Tie as tie
 
 behind-bare : (c : tie.After-put-bare) → let a = c .before .before .before .args in
-    Next (listingOf (a .behind) (a .stream .now)) (c .put-bare .result .bytes) (behindOf (a .behind) (a .line) (a .samples .now) ++ newline)
+    Next (listingOf (a .reading) (a .behind) (a .stream .now)) (c .put-bare .result .bytes) (behindOf (a .behind) (a .line) (a .samples .now) ++ newline)
 behind-bare c =
     let entry = c .before .before .before in second-next (bareText (entry .args .line)) _ (c .put-bare .ensures) (entry .pre .1)
 

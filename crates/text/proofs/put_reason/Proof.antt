@@ -9,9 +9,11 @@ use Rattle.text.proofs.Pieces.{piece-next}
 use Rattle.text.proofs.put_reason.Statement.{statement}
 use Rattle.text.proofs.put_reason.Tie as tie
 
-no-other : (n : ℕ) → (n ≡ 1 → ⊥) → (n ≡ 2 → ⊥) → (n ≡ 3 → ⊥) → (n ≡ 4 → ⊥) → (n ≡ 5 → ⊥) → (n ≡ 6 → ⊥) → (n ≡ 7 → ⊥) → reasonOf n ≡ letters "a mistake of the caller"
+no-other : (n : ℕ) → (n ≡ 1 → ⊥) → (n ≡ 2 → ⊥) → (n ≡ 3 → ⊥) → (n ≡ 4 → ⊥) → (n ≡ 5 → ⊥) → (n ≡ 6 → ⊥) → (n ≡ 7 → ⊥) → (n ≡ 13 → ⊥)
+    → reasonOf n ≡ letters "a mistake of the caller"
 unfolding reasonOf
-no-other n h1 h2 h3 h4 h5 h6 h7 = rw (ne-eqb n 1 h1, ne-eqb n 2 h2, ne-eqb n 3 h3, ne-eqb n 4 h4, ne-eqb n 5 h5, ne-eqb n 6 h6, ne-eqb n 7 h7)
+no-other n h1 h2 h3 h4 h5 h6 h7 h13 =
+    rw (ne-eqb n 1 h1, ne-eqb n 2 h2, ne-eqb n 3 h3, ne-eqb n 4 h4, ne-eqb n 5 h5, ne-eqb n 6 h6, ne-eqb n 7 h7, ne-eqb n 13 h13)
 
 slice-aggregate-put : tie.Need-slice-aggregate-put
 slice-aggregate-put c = search needs
@@ -66,10 +68,17 @@ slice-aggregate-put-8 : tie.Need-slice-aggregate-put-8
 slice-aggregate-put-8 c = search needs
 
 put-requires-8 : tie.Need-put-requires-8
-put-requires-8 c κs =
+unfolding reasonOf
+put-requires-8 c κs = let entry = c .before .before .before in piece-next (ap reasonOf (c .before .match .keys8)) (entry .pre .0) (entry .pre .1)
+
+slice-aggregate-put-9 : tie.Need-slice-aggregate-put-9
+slice-aggregate-put-9 c = search needs
+
+put-requires-9 : tie.Need-put-requires-9
+put-requires-9 c κs =
     let entry = c .before .before .before in
     let none = c .before .match .rest in
-    piece-next (no-other _ (none .0 .0 .0 .0 .0 .0 .1) (none .0 .0 .0 .0 .0 .1) (none .0 .0 .0 .0 .1) (none .0 .0 .0 .1) (none .0 .0 .1) (none .0 .1) (none .1)) (entry .pre .0) (entry .pre .1)
+    piece-next (no-other _ (none .0 .0 .0 .0 .0 .0 .0 .1) (none .0 .0 .0 .0 .0 .0 .1) (none .0 .0 .0 .0 .0 .1) (none .0 .0 .0 .0 .1) (none .0 .0 .0 .1) (none .0 .0 .1) (none .0 .1) (none .1)) (entry .pre .0) (entry .pre .1)
 
 returns : tie.Need-returns
 unfolding reasonOf
@@ -114,10 +123,16 @@ returns-7 c =
     c .put7 .ensures ∙ ap (λ (text : List ℕ). a .done .bytes + length text) (sym (ap reasonOf (c .before .before .match .keys7)))
 
 returns-8 : tie.Need-returns-8
+unfolding reasonOf
 returns-8 c =
     let a = c .before .before .before .before .args in
+    c .put8 .ensures ∙ ap (λ (text : List ℕ). a .done .bytes + length text) (sym (ap reasonOf (c .before .before .match .keys8)))
+
+returns-9 : tie.Need-returns-9
+returns-9 c =
+    let a = c .before .before .before .before .args in
     let none = c .before .before .match .rest in
-    c .put8 .ensures ∙ ap (λ (text : List ℕ). a .done .bytes + length text) (sym (no-other _ (none .0 .0 .0 .0 .0 .0 .1) (none .0 .0 .0 .0 .0 .1) (none .0 .0 .0 .0 .1) (none .0 .0 .0 .1) (none .0 .0 .1) (none .0 .1) (none .1)))
+    c .put9 .ensures ∙ ap (λ (text : List ℕ). a .done .bytes + length text) (sym (no-other _ (none .0 .0 .0 .0 .0 .0 .0 .1) (none .0 .0 .0 .0 .0 .0 .1) (none .0 .0 .0 .0 .0 .1) (none .0 .0 .0 .0 .1) (none .0 .0 .0 .1) (none .0 .0 .1) (none .0 .1) (none .1)))
 
 pub put-reason-spec : {M : Type 1} → statement M
 put-reason-spec =
@@ -139,6 +154,8 @@ put-reason-spec =
     put-requires-7
     slice-aggregate-put-8
     put-requires-8
+    slice-aggregate-put-9
+    put-requires-9
     returns
     returns-2
     returns-3
@@ -146,4 +163,5 @@ put-reason-spec =
     returns-5
     returns-6
     returns-7
-    returns-8)
+    returns-8
+    returns-9)

@@ -1,6 +1,6 @@
 use borrow.Author.Needs.{needs}
 use mathlib.Core.Path.{ap}
-use Rattle.probe.specs.Answers.{put}
+use Rattle.probe.specs.Answers.{answerInto}
 use Rattle.probe.proofs.reading.reading_reader.Statement.{statement}
 use Rattle.probe.proofs.reading.reading_reader.Tie as tie
 
@@ -20,7 +20,7 @@ element-write-answer-4 : tie.Need-element-write-answer-4
 element-write-answer-4 c = search needs
 
 returns : tie.Need-returns
-returns c = let e = c .reader-call .ensures in (ap (λ a. a .number) e, ap (λ a. put a (c .before .before .args .answer .now)) e)
+returns c = let e = c .reader-call .ensures in (ap (λ a. a .number) e, ap (λ a. answerInto a (c .before .before .args .answer .now)) e)
 
 pub reading-reader-spec : {M : Type 1} → statement M
 reading-reader-spec =

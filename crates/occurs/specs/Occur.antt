@@ -19,7 +19,7 @@ use Rattle.grammar.specs.Reads.{_>>=_, run}
 use Rattle.tables.specs.Standard.{rateOf}
 use Rattle.header.specs.Header.{headerOf, startOf, syncOf, seekOf, fieldsOf, identOf, ratesOf, restOf, modeOf, boundOf, checkOf, sizeOf}
 use Rattle.clock.specs.Clock.{startTimeOf, sameBits, onTime}
-use Rattle.header.specs.Readings.{plain}
+use Rattle.readings.specs.Readings.{plain}
 use Rattle.header.specs.declared.Format.{Format}
 use Rattle.state.specs.State.{fresh, numbersOk, inRange, standsAt, pends, framedTo}
 use Rattle.verdict.specs.Verdict.{attemptOf, headedOf, enoughOf, readyOf, atOnceOf, knownOf}
@@ -123,8 +123,8 @@ seven-tells-it-once = (refl, refl)
 abbrev refusedThenCut : List ℕ
 refusedThenCut = 1 ∷ 0xFF ∷ 0xFD ∷ 0x00 ∷ 5 ∷ 6 ∷ header ++ replicate 2 0
 
-pub lines-tell-it-once : (linesOf cutBehindThree ≡ End 7 (byteAt 7) 3 ∷ [])
-    × (linesOf refusedThenCut ≡ RefusedLine 4 (byteAt 3) 1 ∷ End 7 (byteAt 10) 2 ∷ [])
+pub lines-tell-it-once : (linesOf plain cutBehindThree ≡ End 7 (byteAt 7) 3 ∷ [])
+    × (linesOf plain refusedThenCut ≡ RefusedLine 4 (byteAt 3) 1 ∷ End 7 (byteAt 10) 2 ∷ [])
 unfolding shownOf calledOf shownFrom nextOf decodeOf openOf openMemory noRoomOf blank table readyOf atOnceOf headedOf attemptOf enoughOf fresh inRange numbersOk onTime sameBits
     startTimeOf isNan toBits div ofInt round units odd size headerOf startOf syncOf seekOf searchOf hasOf skipBytesOf fieldOf readOf bitsValue bitAt
     firstFrom run _>>=_ fieldsOf identOf ratesOf restOf modeOf boundOf checkOf sizeOf
@@ -145,7 +145,7 @@ unfolding linesText framesText countedText hundredthsOf secondsText junkText jun
     digitsIn bracketed reasonOf
 junk-occurs = (refl, refl, refl)
 
--- an opening gives 0 to 5 and 9 (memory only), a question tells a format or gives 1 to 5 and 10
+-- read plainly, an opening gives 0 to 5 and 9 (memory only), a question tells a format or gives 1 to 5 and 10
 abbrev firsts : List (List ℕ)
 firsts =
     (header ++ replicate 2 0) ∷ [] ∷ (1 ∷ replicate 5 0) ∷ (0xFF ∷ 0xFB ∷ replicate 4 0) ∷ (0xFF ∷ 0xFD ∷ replicate 4 0)

@@ -14,7 +14,7 @@ use Rattle.grammar.specs.Widths.{Agree, Alike, alike, same-used}
 use Rattle.header.specs.Header.{boundBy}
 use Rattle.header.specs.Accepted.{Extended}
 use Rattle.header.specs.declared.Format.{Format}
-use Rattle.header.specs.declared.Reading.{Reading}
+use Rattle.readings.specs.declared.Reading.{Reading}
 use Rattle.window.specs.Output.{Place}
 use Rattle.synthesis.specs.Slots.{positionAfter, ringOf, memoryAfter, outputAfter, outputLength, memoryLength}
 use Rattle.synthesis.specs.Wash.{ring-washed, output-washed, output-by-rings}

@@ -1,0 +1,2 @@
+pub mod Occur
+pub mod Strict

@@ -1,0 +1,1 @@
+// Each number of the calls occurs, and how: specs/ alone.
