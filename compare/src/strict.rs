@@ -1,5 +1,5 @@
-//! The strict reading of document 02 (E3): which bit rates a mode may have. Written as the standard prints it (2.4.2.3), a row
-//! for each bit rate with the modes that it allows, and shares no code with the port. `pairs` holds these rows to what twolame
+//! The strict reading of document 02 (E3): which bit rates a mode may have. A row for each bit rate has the modes that it allows,
+//! after twolame and libmad (docs/DIFFERENCES.md, F3), and no code is shared with the port. `pairs` holds these rows to what twolame
 //! encodes and libmad plays.
 #![cfg_attr(not(layer = "decode"), allow(dead_code))]
 

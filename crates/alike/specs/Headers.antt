@@ -1,6 +1,7 @@
 -- The port's header and the standard's, both ways. Where a header of ISO/IEC 11172-3 stands at a byte that an attempt reaches, the port
 -- accepts it, with the standard's fields, bound and frame size; in the strict reading (02, E3) if the standard has its pair of bit rate and
--- mode, and else refuses it with 13. And a header that the port accepts, all of its bits being there, is one of the standard's. Either way it stands at the byte that the attempt tells, so up to there the bytes were passed over (02, E2).
+-- mode, and else refuses it with 13. And a header that the port accepts, all of its bits being there, is one of the standard's. Either way
+-- it stands at the byte that the attempt tells, so up to there the bytes were passed over (02, E2).
 -- Demand 2: "Header .. proved against a definition written from ISO/IEC 11172-3 Layer II". Assumes nothing.
 use Prim.Native.Nat.{ℕ, _+_, _-_, _*_, _/_, _%_, _≤_, _<_}
 use mathlib.Core.Path.{_≡_, refl, sym, ap, subst, _∙_}
@@ -24,10 +25,9 @@ use Rattle.buffer.specs.declared.BytePos.{BytePos}
 use Rattle.buffer.specs.declared.Reader.{Reader}
 use Rattle.buffer.specs.declared.Field.{Field}
 use Rattle.readings.specs.Readings.{strict}
-use Rattle.readings.specs.Pairs.{barred}
 use Rattle.header.specs.Header.{refusal, headerOf}
 use Rattle.header.specs.Accepted.{SameFormat}
-use Rattle.header.specs.Attempts.{elevenBits, stop, Synced, in-place, searched, layer, bitrate, samplerate, mode, flags, checked, afterCheck, formatBy, dataSize as sizeBy, BitrateGiven, Attempts, one, two, three, four, five, thirteen, six, zero as accepted, attempt-table}
+use Rattle.header.specs.Attempts.{elevenBits, stop, Synced, in-place, searched, layer, bitrate, samplerate, mode, flags, checked, afterCheck, formatBy, dataSize as sizeBy, BitrateGiven, pairBarred, Attempts, one, two, three, four, five, thirteen, six, zero as accepted, attempt-table}
 use Rattle.header.specs.Passed.{Met, sync-is-ff}
 use Rattle.header.specs.declared.Attempt.{Attempt}
 use Rattle.header.specs.declared.Format.{Format}
@@ -253,15 +253,12 @@ module _ (s : List ℕ) (r : Reader) (short : length s ≤ longestStream) (known
         few : (n : ℕ) → n < 4 → (n ≡ 3 → ⊥) → n ≤ 2
         few n l h = omega arith
 
-  abbrev pairOf : Reader → Bool
-  pairOf after = barred (known .reading) (bitrate s after .value - 1) (mode s after .value)
-
-  accepted-at : {b : BytePos} {after : Reader} → BitrateGiven s after → (samplerate s after .value ≡ 3 → ⊥) → pairOf after ≡ false → Met s r b after
+  accepted-at : {b : BytePos} {after : Reader} → BitrateGiven s after → (samplerate s after .value ≡ 3 → ⊥) → pairBarred s after (known .reading) ≡ false → Met s r b after
       → StandardsHeader s r (formatBy s after (known .reading)) (sizeBy s after) (b .0) (afterCheck s after)
   accepted-at {b} u f k met =
       let byte = b .0 in
       subst
-      (λ (p : Reader). BitrateGiven s p → (samplerate s p .value ≡ 3 → ⊥) → pairOf p ≡ false
+      (λ (p : Reader). BitrateGiven s p → (samplerate s p .value ≡ 3 → ⊥) → pairBarred s p (known .reading) ≡ false
       → StandardsHeader s r (formatBy s p (known .reading)) (sizeBy s p) byte (afterCheck s p))
       (ap readerAt (sym (met .behind)))
       (λ v g k. record {

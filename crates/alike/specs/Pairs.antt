@@ -18,7 +18,7 @@ use Rattle.tables.specs.Standard.{kbpsOf}
 use Rattle.readings.specs.Readings.{strict, readingBy}
 use Rattle.readings.specs.Pairs.{onlyMono, neverMono, barred}
 use Rattle.header.specs.Header.{headerNumber, headerOf, startOf, syncOf, fieldsOf, identOf, ratesOf, restOf, modeOf, boundOf, checkOf, sizeOf}
-use Rattle.header.specs.Attempts.{bitrate, mode}
+use Rattle.header.specs.Attempts.{pairBarred}
 use Rattle.readings.specs.declared.Reading.{Reading}
 use Rattle.standard.specs.Header.{permitted, modeBits, bitrateIndex}
 use Rattle.alike.specs.Fields.{afterSync, says}
@@ -82,13 +82,9 @@ strict-takes-the-standards-pairs = (tt, tt)
 abbrev pub Permits : Reading → List ℕ → ℕ → Type 0
 Permits reading s byte = strict reading ≡ true → permitted (modeBits s byte) (bitrateIndex s byte) ≡ true
 
--- whether the port refuses a pair
-abbrev pub pairRefused : List ℕ → ℕ → Reading → Bool
-pairRefused s byte reading = barred reading (bitrate s (afterSync byte) .value - 1) (mode s (afterSync byte) .value)
-
 module _ (s : List ℕ) (byte : ℕ) (short : length s ≤ longestStream) (room : 8 * byte + 32 ≤ 8 * length s) (least : 1 ≤ bitrateIndex s byte)
     (most : bitrateIndex s byte ≤ 14) (reading : Reading) where
-  goes-by-the-table : pairRefused s byte reading ≡ (strict reading && not (permitted (modeBits s byte) (bitrateIndex s byte)))
+  goes-by-the-table : pairBarred s (afterSync byte) reading ≡ (strict reading && not (permitted (modeBits s byte) (bitrateIndex s byte)))
   goes-by-the-table =
       let w = says s byte short room reading in
       let index : bitrateIndex s byte - 1 + 1 ≡ bitrateIndex s byte = omega arith in
@@ -96,11 +92,11 @@ module _ (s : List ℕ) (byte : ℕ) (short : length s ≤ longestStream) (room 
       (barred-is-not-permitted reading (bitrateIndex s byte - 1) (modeBits s byte) (omega arith) (bits-below s (byte * 8 + 24) 2)
       ∙ ap (λ (i : ℕ). strict reading && not (permitted (modeBits s byte) i)) index)
 
-  pub permitted-is-taken : Permits reading s byte → pairRefused s byte reading ≡ false
+  pub permitted-is-taken : Permits reading s byte → pairBarred s (afterSync byte) reading ≡ false
   permitted-is-taken h = goes-by-the-table ∙ implied _ _ h
 
-  pub taken-is-permitted : pairRefused s byte reading ≡ false → Permits reading s byte
+  pub taken-is-permitted : pairBarred s (afterSync byte) reading ≡ false → Permits reading s byte
   taken-is-permitted h = implies _ _ (sym goes-by-the-table ∙ h)
 
-  pub not-permitted-is-refused : strict reading ≡ true → permitted (modeBits s byte) (bitrateIndex s byte) ≡ false → pairRefused s byte reading ≡ true
+  pub not-permitted-is-refused : strict reading ≡ true → permitted (modeBits s byte) (bitrateIndex s byte) ≡ false → pairBarred s (afterSync byte) reading ≡ true
   not-permitted-is-refused chosen none = goes-by-the-table ∙ rw (chosen, none)

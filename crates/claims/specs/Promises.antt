@@ -88,7 +88,7 @@ pub record Demand2 : Type 0 where
       → 8 * byte + 48 ≤ 8 * length s → HeaderFields s byte → (known : Format) → strict (known .reading) ≡ true
       → permitted (modeBits s byte) (bitrateIndex s byte) ≡ false → headerOf s r known ≡ refusal 13 (byteAt byte) (readerAt (byte * 8 + 26))
   -- .. so no frame is accepted with one, whatever the calls since a strict opening ..
-  pub strict-pairs : {c : Call} (past : Past (c .state) (c .memory)) → strict (readingOf past) ≡ true → Accepts c
+  pub only-the-standards-pairs : {c : Call} (past : Past (c .state) (c .memory)) → strict (readingOf past) ≡ true → Accepts c
       → let f = frameState c .format in permitted (f .mode) (f .bitrate + 1) ≡ true
   -- .. and an accepted one, where its bits are there, is one of the standard's
   pub only-the-standards-headers : (s : List ℕ) (r : Reader) → length s ≤ longestStream → (known : Format) → r .at .0 ≤ farthestBit
@@ -113,7 +113,7 @@ demand-2 =
       start-time-by-frames = time-by-frames;
       headers-are-the-standards = the-standards-header;
       another-pair-is-13 = not-permitted-is-13;
-      strict-pairs = strict-frames-have-the-standards-pairs;
+      only-the-standards-pairs = strict-frames-have-the-standards-pairs;
       only-the-standards-headers = an-accepted-header;
       codes-are-the-standards = accepted-as-the-standard;
       frames-are-the-standards = accepted-frames-are-the-standards;

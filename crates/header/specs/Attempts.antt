@@ -19,7 +19,7 @@ use Rattle.buffer.specs.declared.BytePos.{BytePos}
 use Rattle.buffer.specs.declared.Reader.{Reader}
 use Rattle.buffer.specs.declared.Field.{Field}
 use Rattle.grammar.specs.Reads.{Reads, done, _>>=_, Ran, ran, run}
-use Rattle.header.specs.Header.{boundBy, sizeOf, differs, afterModeOf, bySearch, seekOf, syncOf, startOf, identOf, byIdent, ratesOf, byRates, modeOf, checkOf, boundOf, restOf, fieldsOf, attempt, refusal, byStart, headerOf, headerNumber}
+use Rattle.header.specs.Header.{boundBy, sizeOf, differs, bySearch, seekOf, syncOf, startOf, identOf, byIdent, ratesOf, byRates, modeOf, checkOf, boundOf, restOf, fieldsOf, attempt, refusal, byStart, headerOf, headerNumber}
 use Rattle.header.specs.Accepted.{SameFormat, same-format}
 use Rattle.readings.specs.Pairs.{barred}
 use Rattle.header.specs.declared.Ident.{Ident}
@@ -109,6 +109,10 @@ module _ (s : List ℕ) (q : Reader) where
     pub not-free : bitrate .value ≡ 0 → ⊥
     pub not-forbidden : bitrate .value ≡ 15 → ⊥
 
+  -- 02, E3: whether a reading refuses the pair of bit rate and mode
+  abbrev pub pairBarred : Reading → Bool
+  pairBarred reading = barred reading (bitrate .value - 1) (mode .value)
+
   abbrev pub formatBy : Reading → Format
   formatBy reading =
       record {
@@ -141,16 +145,16 @@ pub data Attempts (s : List ℕ) (r : Reader) (known : Format) : ℕ → Attempt
       → Attempts s r known 5 (refusal 5 b (samplerate s q .next))
   -- 02, E3: a bit rate that the standard keeps for one mode; "after 5 and before 6; position as for 6"
   thirteen : {b : BytePos} {q : Reader} → 48 ≤ left s r → Synced s r b q → BitrateGiven s q → (samplerate s q .value ≡ 3 → ⊥)
-      → barred (known .reading) (bitrate s q .value - 1) (mode s q .value) ≡ true
+      → pairBarred s q (known .reading) ≡ true
       → Attempts s r known 13 (refusal 13 b (mode s q .next))
   -- "a header was accepted earlier, and bit rate, sample rate or mode differs"
   six : {b : BytePos} {q : Reader} → 48 ≤ left s r → Synced s r b q → BitrateGiven s q → (samplerate s q .value ≡ 3 → ⊥)
-      → barred (known .reading) (bitrate s q .value - 1) (mode s q .value) ≡ false
+      → pairBarred s q (known .reading) ≡ false
       → (known .samplerate ≡ 3 → ⊥) → (SameFormat known (formatBy s q (known .reading)) → ⊥)
       → Attempts s r known 6 (refusal 6 b (mode s q .next))
   -- "header accepted"
   zero : {b : BytePos} {q : Reader} → 48 ≤ left s r → Synced s r b q → BitrateGiven s q → (samplerate s q .value ≡ 3 → ⊥)
-      → barred (known .reading) (bitrate s q .value - 1) (mode s q .value) ≡ false
+      → pairBarred s q (known .reading) ≡ false
       → ((known .samplerate ≡ 3 → ⊥) → SameFormat known (formatBy s q (known .reading)))
       → Attempts s r known 0 (record { header = Accepted (formatBy s q (known .reading)) (dataSize s q); sync = b; next = afterCheck s q })
 
@@ -166,8 +170,8 @@ module _ (s : List ℕ) (q : Reader) (known : Format) where
   abbrev other : Bool
   other = differs known (formatBy s q (known .reading) .bitrate) (formatBy s q (known .reading) .samplerate) (formatBy s q (known .reading) .mode)
 
-  abbrev kept : Bool
-  kept = barred (known .reading) (bitrate s q .value - 1) (mode s q .value)
+  abbrev barredPair : Bool
+  barredPair = pairBarred s q (known .reading)
 
   -- the check word is passed
   check-course : (check : Bool) (x : ℕ) (g : ℕ → Header) (r : Reader)
@@ -184,14 +188,14 @@ module _ (s : List ℕ) (q : Reader) (known : Format) where
   in-turn false false accepted r = refl
 
   rest-course : run (restOf known (checked s q) (bitrate s q .value - 1) (samplerate s q .value) (padding s q .value)) s (padding s q .next)
-      ≡ cond kept (ran (Refused 13) (mode s q .next))
+      ≡ cond barredPair (ran (Refused 13) (mode s q .next))
       (cond other (ran (Refused 6) (mode s q .next)) (ran (Accepted (formatBy s q (known .reading)) (dataSize s q)) (afterCheck s q)))
   unfolding restOf modeOf boundOf run _>>=_
   rest-course =
-      let n : ℕ = cond kept 13 (cond other 6 0) in
+      let n : ℕ = cond barredPair 13 (cond other 6 0) in
       push (λ (m : Reads Header). run m s (mode s q .next)) (eqb n 0) _ _
       ∙ ap (λ (x : Ran Header). cond (eqb n 0) x (ran (Refused n) (mode s q .next))) (check-course (checked s q) _ _ (flags s q .next))
-      ∙ in-turn kept other _ (mode s q .next)
+      ∙ in-turn barredPair other _ (mode s q .next)
 
   rates-course : run (ratesOf >>= byRates known (checked s q)) s (protection s q .next)
       ≡ cond noBitrate (ran (Refused 4) (bitrate s q .next))
@@ -279,7 +283,7 @@ module _ (s : List ℕ) (r : Reader) (short : length s ≤ longestStream) (near 
             (λ t. let n = neither (eqb (bitrate s q .value) 0) _ t in
             let u : BitrateGiven s q = record { ident = l; not-free = eqb-false _ _ (n .0); not-forbidden = eqb-false _ _ (n .1) } in
             by-test S (eqb (samplerate s q .value) 3) _ _ (λ f. five room y u (eqb-true _ _ f))
-            (λ f. by-test S (kept s q known) _ _ (thirteen room y u (eqb-false _ _ f))
+            (λ f. by-test S (barredPair s q known) _ _ (thirteen room y u (eqb-false _ _ f))
             (λ k. by-test S (other s q known) _ _ (λ d. six room y u (eqb-false _ _ f) k (other-is-known s q known d) (other-is-not-same s q known d))
             (λ d. zero room y u (eqb-false _ _ f) k (same-format known (formatBy s q (known .reading)) d))))))
 
@@ -318,7 +322,7 @@ module _ (s : List ℕ) (r : Reader) (short : length s ≤ longestStream) (near 
         → headerOf s r known
         ≡ attempt b
         (cond (eqb (samplerate s q .value) 3) (ran (Refused 5) (samplerate s q .next))
-        (cond (kept s q known) (ran (Refused 13) (mode s q .next))
+        (cond (barredPair s q known) (ran (Refused 13) (mode s q .next))
         (cond (other s q known) (ran (Refused 6) (mode s q .next)) (ran (Accepted (formatBy s q (known .reading)) (dataSize s q)) (afterCheck s q)))))
     rated-course {b} {q} room y u =
         layer-course room y (u .ident)

@@ -69,7 +69,7 @@ unfolding headerOf startOf syncOf seekOf searchOf hasOf skipBytesOf fieldOf read
     modeOf boundOf checkOf sizeOf
 passes = refl
 
--- 02, E3: an attempt from byte 0 in a reading, with a format known or none: its number, and the bit where it ends. With so many choices
+-- 02, E3: an attempt from byte 0, by the number of its choices and a format that is known, or none: its number, and the bit where it ends
 abbrev attempted : ℕ → Format → List ℕ → List ℕ
 attempted choices known s =
     let t = headerOf s (readerAt 0) (record { reading = readingBy choices; samplerate = known .samplerate; bitrate = known .bitrate; mode = known .mode; bound = known .bound }) in

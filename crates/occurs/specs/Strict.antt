@@ -3,9 +3,8 @@
 use Prim.Native.Nat.{ℕ}
 use mathlib.Core.Path.{_≡_, refl}
 use mathlib.Core.Bool.{true}
-use mathlib.Core.List.{List, [], _∷_, _++_}
+use mathlib.Core.List.{List, [], _∷_, _++_, flatMap}
 use lib.Ieee.{isNan, toBits, div, ofInt, round, units, odd, size}
-use lib.ListN.{replicate}
 use Rattle.ground.specs.First.{firstFrom}
 use Rattle.ground.specs.Table.{table}
 use Rattle.buffer.specs.Bits.{bitAt, bitsValue}
@@ -24,6 +23,10 @@ use Rattle.verdict.specs.declared.Heading.the-variants.{Known, Refused}
 use Rattle.audio.specs.Calls.{decodeOf, blank, openOf, openMemory, noRoomOf, formatOf}
 use Rattle.audio.specs.declared.Reply.the-variants.{Refused as ReplyRefused}
 use Rattle.listing.specs.Lines.{nextOf, shownFrom, calledOf, shownOf, linesOf}
+use Rattle.listing.specs.Summary.{countedText, hundredthsOf, secondsText, framesText, junkText, reasonText, refusalText, refusalsText, linesText}
+use Rattle.listing.specs.Tally.{endFrom, junkIn}
+use Rattle.listing.specs.Text.{digitsIn, decimalOf, numbered, bracketed}
+use Rattle.listing.specs.Words.{letters, reasonOf}
 use Rattle.listing.specs.declared.Line.the-variants.{Refused as RefusedLine, End}
 
 abbrev strictly : Reading
@@ -68,6 +71,13 @@ unfolding shownOf calledOf shownFrom nextOf decodeOf openOf openMemory noRoomOf 
     numbersOk onTime sameBits startTimeOf isNan toBits div ofInt round units odd size headerOf startOf syncOf seekOf searchOf hasOf skipBytesOf fieldOf
     readOf bitsValue bitAt firstFrom run _>>=_ fieldsOf identOf ratesOf restOf modeOf boundOf checkOf sizeOf
 thirteen-is-no-end = (refl, refl)
+
+-- its line in words: the reason, the count and the byte
+pub thirteen-in-words : linesText (RefusedLine 13 (byteAt 3) 0 ∷ End 7 (byteAt 10) 2 ∷ [])
+    ≡ letters "0 frames: nothing was played; 2 bytes of junk in front; 1 call refused with 13 (a bit rate that the standard does not have in this mode) from byte 3; ended with 7 (the last frame is cut off)\n"
+unfolding linesText framesText countedText hundredthsOf secondsText junkText junkIn refusalsText refusalText reasonText endFrom flatMap numbered decimalOf
+    digitsIn bracketed reasonOf
+thirteen-in-words = refl
 
 -- a state by hand, strict and with such a pair pending, is in range: its frame is asked for, 7 here, and not refused with 10 or 13
 abbrev byHand : Audio

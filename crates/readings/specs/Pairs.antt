@@ -1,4 +1,5 @@
--- The bit rates that the standard keeps for one mode, in the words of 02, E3. Crate alike has that they are the standard's own (Pairs). Assumes nothing.
+-- The bit rates that the standard keeps for one mode, in the words of 02, E3; crate alike has that they are the standard's own (Pairs).
+-- Assumes nothing.
 use Prim.Native.Nat.{ℕ}
 use mathlib.Core.Path.{_≡_, refl}
 use mathlib.Core.Bool.{Bool, true, false, cond, _&&_, _||_}
@@ -19,3 +20,14 @@ neverMono kbps = eqb kbps 224 || eqb kbps 256 || eqb kbps 320 || eqb kbps 384
 -- in the strict reading; the bit rate by its index from 0, and mode 3 is mono
 abbrev pub barred : Reading → ℕ → ℕ → Bool
 barred reading bitrate mode = strict reading && cond (eqb mode 3) (neverMono (kbpsOf bitrate)) (onlyMono (kbpsOf bitrate))
+
+-- 32 and 320 kbps in stereo, joint stereo, two channels and mono: strictly, and plainly
+abbrev inEachMode : Reading → ℕ → List Bool
+inEachMode reading bitrate = map (barred reading bitrate) (0 ∷ 1 ∷ 2 ∷ 3 ∷ [])
+
+pub in-each-mode : inEachMode (readingBy 1) 0 ∷ inEachMode (readingBy 1) 12 ∷ inEachMode plain 0 ∷ inEachMode plain 12 ∷ []
+    ≡ (true ∷ true ∷ true ∷ false ∷ [])
+    ∷ (false ∷ false ∷ false ∷ true ∷ [])
+    ∷ (false ∷ false ∷ false ∷ false ∷ [])
+    ∷ (false ∷ false ∷ false ∷ false ∷ []) ∷ []
+in-each-mode = refl

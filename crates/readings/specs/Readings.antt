@@ -1,5 +1,5 @@
 -- How a decoder reads, chosen at its opening and kept since: five choices, each a bit of a number. From 02. A choice has no effect
--- until its request has landed. Assumes nothing.
+-- until its request has landed: today E3's has one. Assumes nothing.
 use Prim.Native.Nat.{ℕ, _/_, _%_}
 use mathlib.Core.Path.{_≡_, refl}
 use mathlib.Core.Bool.{Bool, true, false}
