@@ -2,6 +2,8 @@
 // 1 or 7, through the tag's calls alone. A line for each call: its number, the state as the arrays hold it, and what else the call left:
 // rate, kbps and mode; or behind a frame its start, bits and a checksum of its samples. What it must write are the unchanged Rust's
 // answers: streams/README.md says how they were made.
+#![tactic(auto)]
+
 use libc::{STDERR_FILENO, STDOUT_FILENO};
 
 // What each of these answers is whether standard output took all of it.
@@ -52,7 +54,7 @@ fn format(
 }
 
 // After a call: the calls end, or go on, or standard output takes no more.
-#[derive(Drop)]
+#[derive(Clone, Copy)]
 enum Then {
     Last,
     More,

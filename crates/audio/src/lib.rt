@@ -1,4 +1,6 @@
 // The decoder's three public calls: audio.rs's `Audio`, its state by value, its memory and output lent. None refuses silently.
+#![tactic(auto)]
+
 ghost use Rattle.std.specs.Prelude.{◌≡◌, ◌≤◌, ◌<◌, length};
 ghost use Rattle.synthesis.specs.Slots.{memory_length, output_length};
 ghost use Rattle.verdict.specs.declared.Heading.TheVariants.{Known};
@@ -15,14 +17,14 @@ use verdict::{Asked, Heading};
 
 // A format in the lister's units: samples a second, kilobits a second, and the mode (0 stereo, 1 joint stereo, 2 two channels,
 // 3 mono). Or a number.
-#[derive(Drop)]
+#[derive(Clone, Copy)]
 pub enum Reply {
     Format { rate: u32, kbps: u32, mode: u32 },
     Refused(u32),
 }
 
 // 02, E2: `skipped` is how many bytes the call passed over as it sought a header, 0 where it sought none.
-#[derive(Drop)]
+#[derive(Clone, Copy)]
 pub struct Replied {
     pub answer: Reply,
     pub state: Audio,
@@ -30,13 +32,13 @@ pub struct Replied {
 }
 
 // A frame with its start time in seconds and the bits it used, or a number.
-#[derive(Drop)]
+#[derive(Clone, Copy)]
 pub enum Answer {
     Frame { time: f64, bits: usize },
     Refused(u32),
 }
 
-#[derive(Drop)]
+#[derive(Clone, Copy)]
 pub struct Decoded {
     pub answer: Answer,
     pub state: Audio,

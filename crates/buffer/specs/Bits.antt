@@ -1,6 +1,6 @@
 -- The bits of a stream of bytes, most significant first, and searches over its bytes.
 -- From 01, "From the bytes to a header"; buffer.rs reads in this order.
-use Rattle.std.specs.Prelude.{ℕ, zero, suc, ◌+◌, ◌-◌, ◌*◌, ◌/◌, ◌%◌, ◌^◌, List, Bool, true, false, cond, not, get_or, length, eqb}
+use Rattle.std.specs.Prelude.{ℕ, zero, suc, ◌+◌, ◌-◌, ◌*◌, ◌/◌, ◌%◌, ◌^◌, List, Bool, false, cond, not, get_or, length, eqb}
 use Rattle.ground.specs.First.{first_from}
 
 -- the bytes that a stream has at most: 01, number 8

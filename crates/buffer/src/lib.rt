@@ -1,5 +1,7 @@
 // The bit reader: buffer.rs's `Buffer`, with the stream lent for each call and the position by value.
 // 01, "From the bytes to a header"; the numbers 8, 10, 11 and 12 of its table.
+#![tactic(auto)]
+
 ghost use Rattle.std.specs.Prelude.{◌≡◌, ◌+◌, ◌-◌, ◌*◌, ◌≤◌, ◌<◌, ◌/◌, ◌%◌, ◌^◌, length};
 ghost use Rattle.buffer.specs.Bits.{longest_stream, farthest_bit, bits_value, sync_pair, stop_of, past_of};
 ghost use Rattle.buffer.specs.Calls.{byte_pos_of, byte_after_of, bit_of, reader_at, read_of, has_of, ended_of, align_of, skip_of, Fielded, skip_bytes_of, tell_of, search_of};
@@ -11,11 +13,11 @@ pub const LONGEST_STREAM: usize = 16_777_216;
 pub const FARTHEST_BIT: usize = 134_217_736;
 
 // A count of bits from the start of the stream.
-#[derive(Drop)]
+#[derive(Clone, Copy)]
 pub struct BitIndex(pub usize);
 
 // A count of bytes from the start of the stream.
-#[derive(Drop)]
+#[derive(Clone, Copy)]
 pub struct BytePos(pub usize);
 
 impl BitIndex {
@@ -45,40 +47,40 @@ impl BytePos {
 }
 
 // Where reading stands. Past the end is a place too.
-#[derive(Drop)]
+#[derive(Clone, Copy)]
 pub struct Reader {
     pub at: BitIndex,
 }
 
 // `Short` is 01's number 12: more bits were asked for than remain.
-#[derive(Drop)]
+#[derive(Clone, Copy)]
 pub enum Read {
     Value(u32, Reader),
     Short,
     Refused(u32),
 }
 
-#[derive(Drop)]
+#[derive(Clone, Copy)]
 pub enum Holds {
     Yes,
     No,
     Refused(u32),
 }
 
-#[derive(Drop)]
+#[derive(Clone, Copy)]
 pub enum Moved {
     To(Reader),
     Refused(u32),
 }
 
 // How many bytes were passed, and the reader after them.
-#[derive(Drop)]
+#[derive(Clone, Copy)]
 pub enum Skipped {
     Bytes(usize, Reader),
     Refused(u32),
 }
 
-#[derive(Drop)]
+#[derive(Clone, Copy)]
 pub enum Told {
     At(BytePos),
     Refused(u32),
@@ -86,7 +88,7 @@ pub enum Told {
 
 // `sync` is the byte of the FF, or the stream's length where there is none. `skipped` is how many bytes were passed over, from the first
 // that the search looked at up to there.
-#[derive(Drop)]
+#[derive(Clone, Copy)]
 pub enum Sync {
     Found {
         sync: BytePos,
@@ -102,7 +104,7 @@ pub enum Sync {
 }
 
 // A field's value and the reader after it.
-#[derive(Drop)]
+#[derive(Clone, Copy)]
 pub struct Field {
     pub value: u32,
     pub next: Reader,

@@ -1,1 +1,3 @@
 // What the person was promised, as theorems: specs/ alone.
+#![tactic(auto)]
+

@@ -1,4 +1,6 @@
 // A clip frame by frame: the decoder's calls until 1 or 7, with the refusals between passed over.
+#![tactic(auto)]
+
 ghost use Rattle.std.specs.Prelude.{◌≡◌};
 ghost use Rattle.audio.specs.Calls.{open_memory};
 ghost use Rattle.clip.specs.Frames.{count_of, turn_of, opened_of};
@@ -7,21 +9,21 @@ use audio::Answer;
 use state::Audio;
 
 // A decoder and the calls that it may still make: on n bytes every call after n/2 + 1 of them gives 1 or 7.
-#[derive(Drop)]
+#[derive(Clone, Copy)]
 pub struct Playing {
     pub state: Audio,
     pub calls: usize,
 }
 
 // Whether a frame was found, and its samples a second.
-#[derive(Drop)]
+#[derive(Clone, Copy)]
 pub struct Reached {
     pub frame: bool,
     pub rate: u32,
     pub playing: Playing,
 }
 
-#[derive(Drop)]
+#[derive(Clone, Copy)]
 pub struct Counted {
     pub frames: usize,
     pub rate: u32,

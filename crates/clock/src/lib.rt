@@ -1,4 +1,6 @@
 // The start of a frame in seconds, and the test that a kept time is just that.
+#![tactic(auto)]
+
 ghost use Rattle.std.specs.Prelude.{◌≡◌, not, T};
 ghost use Rattle.std.specs.Float.Ieee.{is_nan};
 ghost use Rattle.clock.specs.Clock.{start_time_of, are_same_bits, on_time};

@@ -1,4 +1,6 @@
 // From the side information to samples: `read_samples` and the granules of `decode_frame` in the source.
+#![tactic(auto)]
+
 ghost use Rattle.std.specs.Prelude.{◌≡◌, ◌≤◌, ◌<◌};
 ghost use Rattle.grammar.specs.Reads.{run, ran};
 ghost use Rattle.ground.specs.Stores.{three};
@@ -10,7 +12,7 @@ use buffer::Reader;
 use samples::Three;
 
 // Three codes of one place, and the reader after them.
-#[derive(Drop)]
+#[derive(Clone, Copy)]
 struct Codes {
     codes: Three,
     reader: Reader,

@@ -1,1 +1,3 @@
 // No value of the sound is a NaN or an infinity: specs/ alone.
+#![tactic(auto)]
+

@@ -1,4 +1,6 @@
 // A frame whose header is accepted: audio.rs's `decode_frame`, from the first allocation bit to the last sample.
+#![tactic(auto)]
+
 ghost use Rattle.std.specs.Prelude.{◌≡◌, ◌≤◌, ◌<◌, length};
 ghost use Rattle.window.specs.Output.{Place};
 ghost use Rattle.synthesis.specs.Slots.{memory_length, output_length};
@@ -11,7 +13,7 @@ use header::Format;
 const MODE_MONO: u32 = 3;
 
 // The reader after the codes so far, and the ring position after their slots.
-#[derive(Drop)]
+#[derive(Clone, Copy)]
 pub struct Sounded {
     pub end: Reader,
     pub ring: usize,

@@ -19,6 +19,7 @@ length_table (suc n) f = ap suc (length_table n (λ i. f (suc i)))
 module _ {A : Type 0} (d : A) where
   pub at_table : (n : ℕ) (f : ℕ → A) (i : ℕ) → i < n → get_or (table n f) i d ≡ f i
   unfolding table
+  at_table zero f i h = elim h [ ]
   at_table (suc n) f zero h = refl
   at_table (suc n) f (suc i) h = at_table n (λ j. f (suc j)) i (omega arith)
 

@@ -1,1 +1,2 @@
 // Definitions and laws that every floor uses: nothing here runs.
+#![tactic(auto)]

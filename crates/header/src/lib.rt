@@ -1,4 +1,6 @@
 // One header attempt: audio.rs's `decode_header`, with 01's numbers 1 to 6, and 13 (02, E3), in place of a size of 0.
+#![tactic(auto)]
+
 ghost use Rattle.std.specs.Prelude.{◌≡◌, ◌<◌};
 ghost use Rattle.grammar.specs.Reads.{run, ran};
 ghost use Rattle.header.specs.Header.{ident_of, rates_of, mode_of, bound_by, check_of, bound_of, size_of, differs, after_mode_of, rest_of, by_ident, fields_of, unsought_of, seek_of, sync_of, start_of, header_of};
@@ -21,7 +23,7 @@ pub const MOST_DATA: usize = 1725;
 
 // What frames are read by: the choices of the opening, and the format that the first accepted header fixes. Sample-rate code 3
 // means that there is none yet.
-#[derive(Drop)]
+#[derive(Clone, Copy)]
 pub struct Format {
     pub samplerate: usize,
     pub bitrate: usize,
@@ -31,14 +33,14 @@ pub struct Format {
 }
 
 // An accepted header has its format and its data size in bytes.
-#[derive(Drop)]
+#[derive(Clone, Copy)]
 pub enum Header {
     Accepted(Format, usize),
     Refused(u32),
 }
 
 // What an attempt gives, and the byte of the sync's FF: the stream's length where there is none, the aligned start where none was sought.
-#[derive(Drop)]
+#[derive(Clone, Copy)]
 pub struct Attempt {
     pub header: Header,
     pub sync: BytePos,
@@ -46,7 +48,7 @@ pub struct Attempt {
 }
 
 // The byte of the FF and the place after the 11 ones; or a refusal, with the same byte and where it leaves the reader.
-#[derive(Drop)]
+#[derive(Clone, Copy)]
 pub enum Start {
     At(BytePos, Reader),
     Refused(u32, BytePos, Reader),
@@ -99,13 +101,13 @@ fn find_start(s: &[u8], reader: Reader) -> Start
 }
 
 // Whether a check word follows the header.
-#[derive(Drop)]
+#[derive(Clone, Copy)]
 pub enum Ident {
     LayerII(bool),
     Refused(u32),
 }
 
-#[derive(Drop)]
+#[derive(Clone, Copy)]
 pub struct IdentAt {
     pub ident: Ident,
     pub next: Reader,
@@ -131,7 +133,7 @@ fn read_ident(s: &[u8], reader: Reader) -> IdentAt
 }
 
 // The indexes of bit rate and sample rate, and the padding byte.
-#[derive(Drop)]
+#[derive(Clone, Copy)]
 pub enum Rates {
     Known {
         bitrate: usize,
@@ -141,7 +143,7 @@ pub enum Rates {
     Refused(u32),
 }
 
-#[derive(Drop)]
+#[derive(Clone, Copy)]
 pub struct RatesAt {
     pub rates: Rates,
     pub next: Reader,
@@ -210,7 +212,7 @@ fn pass_check(s: &[u8], reader: Reader, check: bool) -> Reader
     reader
 }
 
-#[derive(Drop)]
+#[derive(Clone, Copy)]
 pub struct BoundAt {
     pub bound: usize,
     pub next: Reader,
@@ -262,7 +264,7 @@ fn refused_after_mode(known: Format, bitrate: usize, samplerate: usize, mode: u3
     0
 }
 
-#[derive(Drop)]
+#[derive(Clone, Copy)]
 pub struct HeaderAt {
     pub header: Header,
     pub next: Reader,

@@ -1,7 +1,9 @@
 // What a descriptor gives until its end, and whether a read failed: `io::read_full` does not tell the two apart.
+#![tactic(auto)]
+
 ghost use Rattle.io.specs.Counts.{IsPrefixLen};
 
-#[derive(Drop)]
+#[derive(Clone, Copy)]
 pub struct Got {
     pub bytes: usize,
     pub failed: bool,

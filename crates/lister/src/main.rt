@@ -1,5 +1,7 @@
 // Lists what is in a clip on standard input, at most 65,536 bytes: 01's lister. A word asks for something more, in any order: with `words`
 // each line says what it means, with `strict` the clip is read by 02's E3. On standard error it ends with the clip in one line.
+#![tactic(auto)]
+
 use libc::{STDERR_FILENO, STDIN_FILENO};
 use listing::Behind;
 use readings::Reading;
@@ -47,7 +49,7 @@ fn choice_of(word: &[u8]) -> u32 {
 }
 
 // What the words ask for, and whether each of them is one that is known.
-#[derive(Drop)]
+#[derive(Clone, Copy)]
 struct Asked {
     choices: u32,
     words: bool,

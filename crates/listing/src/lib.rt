@@ -1,4 +1,6 @@
 // What is in a clip, call by call: the lines of 01's lister, before they are text.
+#![tactic(auto)]
+
 ghost use Rattle.std.specs.Prelude.{◌≡◌, ◌≤◌, length};
 ghost use Rattle.tables.specs.Standard.{kbps_of, rate_of};
 ghost use Rattle.audio.specs.Calls.{decode_memory, decode_output};
@@ -10,7 +12,7 @@ use buffer::{BitIndex, BytePos};
 use state::Audio;
 use verdict::{Asked, Heading};
 
-#[derive(Drop)]
+#[derive(Clone, Copy)]
 pub enum Line {
     Frame {
         number: u32,
@@ -36,14 +38,14 @@ pub enum Line {
 }
 
 // What stands behind a line's text: nothing in 01's listing, a frame's marks in replay's, and for people what the line means.
-#[derive(Drop)]
+#[derive(Clone, Copy)]
 pub enum Behind {
     Nothing,
     Marks,
     Words,
 }
 
-#[derive(Drop)]
+#[derive(Clone, Copy)]
 pub struct Listed {
     pub line: Line,
     pub state: Audio,

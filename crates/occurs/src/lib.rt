@@ -1,1 +1,3 @@
 // Each number of the calls occurs, and how: specs/ alone.
+#![tactic(auto)]
+

@@ -1,4 +1,6 @@
 // Inner layers across the boundary, for the comparison with the Rust. Nothing here is part of the tag.
+#![tactic(auto)]
+
 mod reading;
 mod runs;
 

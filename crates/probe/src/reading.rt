@@ -7,7 +7,7 @@ use buffer::{BitIndex, Holds, Moved, Read, Reader, Skipped, Sync, Told};
 use header::{Attempt, Format, Header};
 
 // 01's number, a value, and the bit position afterwards. A search also has the byte that it came to, and the bytes that it passed over.
-#[derive(Drop)]
+#[derive(Clone, Copy)]
 pub struct Answer {
     pub number: u32,
     pub value: usize,
@@ -209,7 +209,7 @@ pub extern "C" fn reading_reader(
 }
 
 // What an attempt at a header gives: 01's number, the bit position afterwards, a format, the pending data size, the byte of the sync.
-#[derive(Drop)]
+#[derive(Clone, Copy)]
 pub struct Headed {
     pub number: u32,
     pub at: usize,

@@ -1,4 +1,6 @@
 // Ways of reading, chosen at a decoder's opening: 02's choices, and the pairs of bit rate and mode that the strict one refuses.
+#![tactic(auto)]
+
 ghost use Rattle.std.specs.Prelude.{◌≡◌, ◌<◌};
 ghost use Rattle.readings.specs.Readings.{plain as plainReading, reading_by, strict as strictReading};
 ghost use Rattle.readings.specs.Pairs.{only_mono, never_mono, barred as barred_pair};
@@ -7,7 +9,7 @@ pub const MODE_MONO: u32 = 3;
 
 // How a decoder reads: chosen at its opening, and kept. Each choice is a bit; specs/Readings says what it is for. `strict` has its
 // effect; each of the others waits for its request.
-#[derive(Drop)]
+#[derive(Clone, Copy)]
 pub struct Reading {
     pub choices: u32,
 }

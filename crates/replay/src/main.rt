@@ -1,5 +1,7 @@
 // Plays the files that its arguments name: for each its name, then 01's listing, each frame's line with the bits of its start time
 // and a checksum of its samples. What it must write are the unchanged Rust's answers: streams/README.md says how they were made.
+#![tactic(auto)]
+
 use libc::{STDERR_FILENO, STDOUT_FILENO};
 use listing::Behind;
 

@@ -1,4 +1,6 @@
 // What is in a clip, as text: the opening's line, then call by call.
+#![tactic(auto)]
+
 ghost use Rattle.std.specs.Prelude.{◌≡◌, ◌+◌, ◌^◌, ◌<◌, ◌≤◌, length};
 ghost use Rattle.listing.specs.Lines.{opening_shown};
 ghost use Rattle.listing.specs.Text.{listing_of, texts_of};

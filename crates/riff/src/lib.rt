@@ -1,5 +1,7 @@
 // The bytes of a RIFF WAVE file: a header of 44 bytes, then 16-bit stereo.
 // A pattern's sign has the weight 2^31 = 2147483648, its exponent's field 2^23 = 8388608.
+#![tactic(auto)]
+
 ghost use Rattle.std.specs.Prelude.{◌≡◌, ◌+◌, ◌*◌, ◌/◌, ◌%◌, ◌^◌, ◌<◌, ◌≤◌, min, length};
 ghost use Rattle.riff.specs.Level.{half_up, level_of, bits16, pcm_of, words_of};
 ghost use Rattle.riff.specs.Header.{put_at, wave_header_of};

@@ -1,1 +1,3 @@
 // Demand 3 as theorems: specs/ alone.
+#![tactic(auto)]
+

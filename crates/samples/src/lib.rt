@@ -1,10 +1,12 @@
 // From a code to its sample: the integers of `read_samples` in the source.
+#![tactic(auto)]
+
 ghost use Rattle.std.specs.Prelude.{◌≡◌, ◌/◌, ◌%◌, ◌≤◌, ◌<◌, nat_abs, get_or};
 ghost use Rattle.tables.specs.Standard.{levels_of};
 ghost use Rattle.samples.specs.Sample.{bases, scale_of, adj_of, centred_by, scaled_by, sample_of, factor_of, digits_of};
 
 // Three codes of one subband, one for each slot.
-#[derive(Drop)]
+#[derive(Clone, Copy)]
 pub struct Three {
     pub first: u32,
     pub second: u32,

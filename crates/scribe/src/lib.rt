@@ -1,5 +1,7 @@
 // What the programs write of a stream, and the only place that writes it: each piece of a listing, of a summary or of a WAVE file, where it
 // comes next.
+#![tactic(auto)]
+
 ghost use Rattle.std.specs.Prelude.{false, ◌≡◌, ◌+◌, ◌^◌, ◌<◌, length};
 ghost use Rattle.scribe.specs.Next.{Next};
 ghost use Rattle.scribe.specs.Whole.{descriptor_of, whole_of};
@@ -9,7 +11,7 @@ use listing::Behind;
 use readings::Reading;
 
 // A stream's listing, or its summary in one line, in a reading; or its WAVE file, which is of the plain one.
-#[derive(Drop)]
+#[derive(Clone, Copy)]
 pub enum Whole {
     Lines(Reading, Behind),
     Summary(Reading),
@@ -18,7 +20,7 @@ pub enum Whole {
 
 // How much of a text is written. The fields are this crate's alone: a count comes from `nothing_yet` and `put`, and from nowhere else.
 // After a write that failed nothing more is written.
-#[derive(Drop)]
+#[derive(Clone, Copy)]
 pub struct Written {
     bytes: usize,
     failed: bool,

@@ -1,4 +1,6 @@
 // What stands before a frame's codes: `read_allocation` and the first half of `decode_frame` in the source.
+#![tactic(auto)]
+
 ghost use Rattle.std.specs.Prelude.{◌≡◌, ◌≤◌, ◌<◌};
 ghost use Rattle.grammar.specs.Reads.{run, ran};
 ghost use Rattle.tables.specs.Source.{step4};
@@ -241,7 +243,7 @@ fn scale_factors(
 }
 
 // What stands before the codes, and the reader after it.
-#[derive(Drop)]
+#[derive(Clone, Copy)]
 pub struct SideInfo {
     pub reader: Reader,
     pub quant: [u8; 64],

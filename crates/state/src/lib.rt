@@ -1,4 +1,6 @@
 // The decoder's state between calls: audio.rs's `Audio`, by value, and when it is in range.
+#![tactic(auto)]
+
 ghost use Rattle.std.specs.Prelude.{◌≡◌};
 ghost use Rattle.state.specs.State.{fresh, numbers_ok, in_range};
 
@@ -7,7 +9,7 @@ use header::{Format, LEAST_DATA, MOST_DATA};
 use readings::Reading;
 
 // `pending` is the data size of a header whose frame is not decoded yet, or 0; `time` is the start of the next frame.
-#[derive(Drop)]
+#[derive(Clone, Copy)]
 pub struct Audio {
     pub reader: Reader,
     pub format: Format,

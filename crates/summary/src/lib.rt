@@ -1,4 +1,6 @@
 // A stream in one line of words, on standard error: its frames, the junk in front, its refusals by their numbers, its end.
+#![tactic(auto)]
+
 ghost use Rattle.std.specs.Prelude.{◌≡◌, ◌+◌, ◌^◌, ◌≤◌, ◌<◌, length};
 ghost use Rattle.listing.specs.Lines.{lines_of};
 ghost use Rattle.listing.specs.Summary.{counted_text, frames_text, hundredths_of, junk_text, reason_text, refusal_text, refusals_text, seconds_text, summary_of};

@@ -1,4 +1,6 @@
 // The synthesis of a granule: its three slots, in both channels, over a lent memory and a lent output.
+#![tactic(auto)]
+
 ghost use Rattle.std.specs.Prelude.{◌≡◌, ◌+◌, ◌*◌, ◌<◌, ◌≤◌, length};
 ghost use Rattle.transform.specs.Transform.{Small};
 ghost use Rattle.window.specs.Window.{window_list};

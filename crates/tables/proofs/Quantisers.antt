@@ -9,6 +9,8 @@ use Rattle.ground.specs.Upto.{below, or_left}
 use Rattle.tables.specs.Standard.{classes, quantisation_of, levels_of, code_bits_of, grouped_of}
 
 equal : (a b : Bool) → T (cond a b (not b)) → a ≡ b
+equal false true t = elim t [ ]
+equal true false t = elim t [ ]
 equal true true t = refl
 equal false false t = refl
 

@@ -1,4 +1,6 @@
 // The tables of the source, and what is looked up in them.
+#![tactic(auto)]
+
 ghost use Rattle.std.specs.Prelude.{◌≡◌, ◌^◌, ◌<◌};
 ghost use Rattle.tables.specs.Source.{step4, class_of, entry_of, source_row_of, width_of, quantiser_of};
 ghost use Rattle.tables.specs.Standard.{kbps_of, rate_of, limit_of, levels_of, code_bits_of, grouped_of};

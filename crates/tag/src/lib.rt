@@ -1,5 +1,7 @@
 // The boundary that firmware links: the decoder's three calls, and a frame's 16-bit samples; numbers and slices and nothing else.
 // specs/Boundary says what stands where in `places`, `counts` and `time`.
+#![tactic(auto)]
+
 ghost use Rattle.std.specs.Prelude.{◌≡◌};
 ghost use Rattle.readings.specs.Readings.{reading_by};
 ghost use Rattle.audio.specs.Calls.{open_of, open_memory};
@@ -98,7 +100,7 @@ pub extern "C" fn tag_open(
 }
 
 // A number, and the format in the units of the lister's line; zeros beside a refusal.
-#[derive(Drop)]
+#[derive(Clone, Copy)]
 pub struct Named {
     pub number: u32,
     pub rate: u32,
@@ -154,7 +156,7 @@ pub extern "C" fn tag_format(
 }
 
 // A number, and a frame's start in seconds with the bits it used; zeros beside a refusal.
-#[derive(Drop)]
+#[derive(Clone, Copy)]
 pub struct Played {
     pub number: u32,
     pub start: f64,

@@ -1,4 +1,6 @@
 // What a listing adds up to, by a pass of its own over the calls.
+#![tactic(auto)]
+
 ghost use Rattle.std.specs.Prelude.{◌≡◌, ◌+◌, ◌^◌, ◌≤◌, ◌<◌, length, []};
 ghost use Rattle.listing.specs.Lines.{lines_in, lines_of, opening_shown};
 ghost use Rattle.listing.specs.Tally.{skipped_in};
@@ -9,7 +11,7 @@ use readings::Reading;
 use verdict::{Asked, Heading};
 
 // How many values there were, and the first of them.
-#[derive(Drop)]
+#[derive(Clone, Copy)]
 pub struct Kept {
     pub count: u32,
     pub first: usize,
@@ -17,7 +19,7 @@ pub struct Kept {
 
 // The frames with their rates; for each number below 16 the calls refused with it, with their bytes; the number that ended the listing;
 // the bytes of junk in front.
-#[derive(Drop)]
+#[derive(Clone, Copy)]
 pub struct Tally {
     pub frames: Kept,
     pub refused: [Kept; 16],

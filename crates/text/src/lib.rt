@@ -1,4 +1,6 @@
 // A line as text, written piece by piece: 01's, and where they are asked for a frame's start time and checksum behind it, or words.
+#![tactic(auto)]
+
 pub mod checksum;
 
 ghost use Rattle.std.specs.Prelude.{◌≡◌, ◌+◌, ◌^◌, ◌<◌, ◌++◌, length};

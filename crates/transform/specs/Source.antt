@@ -19,7 +19,7 @@ use Rattle.transform.specs.Transform.{floats, idct, transform, slot_of, sums_of,
 
 infixl 60 ◌⊕◌ ◌⊖◌
 infixl 70 ◌⊗◌
-infixl 80 ◌e_◌
+infixl 80 ◌e-◌
 infix 50 ◌≔◌
 abbrev ◌⊕◌ : Float → Float → Float
 x ⊕ y = add binary32 x y
@@ -31,7 +31,7 @@ abbrev ◌⊗◌ : Float → Float → Float
 x ⊗ y = mul binary32 x y
 
 -- m / 10 ^ k
-abbrev ◌e_◌ : ℕ → ℕ → Float
+abbrev ◌e-◌ : ℕ → ℕ → Float
 m e- k = round binary32 false m (10 ^ k)
 
 data Store : Type 0 where

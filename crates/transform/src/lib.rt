@@ -1,5 +1,7 @@
 // `idct36`: the 32 samples of a slot become the 64 values that it writes into the ring.
 // The transform at each width goes by that of half the width; the stages below are its widths from 2 to 32.
+#![tactic(auto)]
+
 ghost use Rattle.std.specs.Prelude.{◌≡◌, ℕ, ◌+◌, ◌≤◌, ◌<◌, length, take, T, Float};
 ghost use Rattle.std.specs.Float.{binary32};
 ghost use Rattle.std.specs.Float.Ieee.{in_float, of_int};

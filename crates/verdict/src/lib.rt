@@ -1,5 +1,7 @@
 // What a call asks before a frame is decoded: 8, 9, 10, then a header, pending or sought (1 to 6, 13), and its data (7). And what a
 // question about the format asks.
+#![tactic(auto)]
+
 ghost use Rattle.std.specs.Prelude.{◌≡◌, ◌≤◌};
 ghost use Rattle.header.specs.Header.{most_data};
 ghost use Rattle.verdict.specs.Verdict.{attempt_of, headed_of, enough_of, at_once_of, ready_of, known_of};
@@ -10,14 +12,14 @@ use state::Audio;
 use synthesis::{MEMORY, OUTPUT};
 
 // Whether a header is there.
-#[derive(Drop)]
+#[derive(Clone, Copy)]
 pub enum Heading {
     Known,
     Refused(u32),
 }
 
 // The answer, the state after it, and the bytes that were passed over as a header was sought: 0 where none was sought.
-#[derive(Drop)]
+#[derive(Clone, Copy)]
 pub struct Asked {
     pub answer: Heading,
     pub state: Audio,

@@ -1,5 +1,7 @@
 // Writes what is heard of a clip on standard input, at most 65,536 bytes, as a WAVE file on standard output. On standard error it ends
 // with the clip in one line.
+#![tactic(auto)]
+
 ghost use Rattle.std.specs.Prelude.{◌≤◌, ◌≡◌, length};
 ghost use Rattle.clip.specs.Frames.{clip_of};
 ghost use Rattle.clip.specs.File.{frame_parts, joined, wave_of};

@@ -1,4 +1,6 @@
 // The synthesis window, and a slot's 32 outputs by it.
+#![tactic(auto)]
+
 ghost use Rattle.std.specs.Prelude.{◌≡◌, ◌+◌, ◌%◌, ◌<◌, ◌≤◌, length, get_or};
 ghost use Rattle.std.specs.Float.{nan};
 ghost use Rattle.ground.specs.Table.{table};

@@ -1,0 +1,10 @@
+use mathlib.Core.Path.{◌≡◌}
+use Prim.Native.Nat.{◌+◌, ◌/◌, ◌%◌}
+use native.Mathlib.Omega.{arith}
+use Rattle.buffer.proofs.BitIndex.byte_after.Goals as goal
+
+pub returns : goal.returns
+returns c =
+    let n = c.args.self.0 in
+    let e : n / 8 + (n % 8 + 7) / 8 ≡ (n + 7) / 8 = omega arith in
+    rw e

@@ -1,0 +1,17 @@
+use mathlib.Core.Path.{◌≡◌, sym, ◌∙◌}
+use Prim.Native.Nat.{ℕ, ◌-◌, ◌<◌, ◌≤◌}
+use borrow.Author.Rules.{rules}
+use native.Mathlib.Omega.{arith}
+use lib.ListN.{length, get_or, length-set}
+use lib.Ieee.{nan}
+use lib.Seq.{ext_get_or}
+use Rattle.ground.specs.Table.{table_more}
+use Rattle.riff.specs.Level.{words_of, sixteen, length_words, word_at}
+use Rattle.riff.proofs.write_words.Given as goal
+
+abbrev pub invariant-loop-i : goal.invariant-loop-i
+invariant-loop-i l =
+    (l.i ≤ length l.values) × (length l.words ≡ length l.values) × ((k : ℕ) → k < l.i → get_or l.words k 0 ≡ get_or (words_of l.values) k 0)
+
+abbrev pub decreases-loop-i : goal.decreases-loop-i
+decreases-loop-i l = length l.values - l.i

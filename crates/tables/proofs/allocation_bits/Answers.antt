@@ -1,0 +1,7 @@
+use Rattle.tables.specs.Source.{width_of}
+use borrow.Author.Rules.{rules}
+use Rattle.tables.proofs.allocation_bits.Goals as goal
+
+pub returns : goal.returns
+unfolding width_of
+returns c = rw c.row.ensures

@@ -1,0 +1,10 @@
+use lib.Dec.{eqb}
+use Rattle.tables.specs.Standard.{limit_of}
+use Rattle.tables.specs.Differences.{same_limit}
+use borrow.Author.Rules.{rules}
+use Rattle.tables.proofs.limit.Goals as goal
+
+pub returns : goal.returns
+unfolding limit_of
+returns c =
+    rw c.entry.ensures (same_limit (eqb c.args.mode 3) c.args.bitrate c.args.samplerate c.requires.0 c.requires.1)

@@ -1,0 +1,12 @@
+use native.Mathlib.Omega.{arith}
+use Rattle.tables.specs.Source.{quantiser_of}
+use Rattle.tables.specs.Laws.{row≤4}
+use borrow.Author.Rules.{rules}
+use Rattle.tables.proofs.quantiser.Goals as goal
+
+pub bounds-quantisers-row : goal.bounds-quantisers-row
+bounds-quantisers-row c = omega (arith, rw (← c.row.ensures) at (row≤4 c.args.table c.args.sb))
+
+pub returns : goal.returns
+unfolding quantiser_of
+returns c = rw (c.row.ensures, c.requires.0)

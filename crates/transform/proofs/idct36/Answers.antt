@@ -1,0 +1,8 @@
+use Rattle.transform.specs.Transform.{idct}
+use borrow.Author.Rules.{rules}
+use Rattle.transform.proofs.idct36.Goals as goal
+
+pub returns : goal.returns
+unfolding idct
+returns c =
+    cc (c.store.ensures, c.pass32.ensures, c.load.ensures)

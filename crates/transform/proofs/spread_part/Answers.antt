@@ -1,0 +1,23 @@
+use mathlib.Core.Path.{◌≡◌}
+use Prim.Native.Nat.{ℕ, ◌-◌, ◌<◌, ◌≤◌}
+use native.Mathlib.Omega.{arith}
+use lib.ListN.{length, length-set}
+use lib.Ieee.{nan}
+use Rattle.ground.specs.Table.{table_more}
+use Rattle.transform.specs.Transform.{at, slot_at}
+use Rattle.transform.proofs.spread_part.Goals as goal
+
+pub loop-i-init : goal.loop-i-init
+loop-i-init c = let p = c.requires in (omega arith, omega arith, p.4)
+
+pub loop-i-preserved : goal.loop-i-preserved
+loop-i-preserved c =
+    let l = c.loop-i in (
+      omega arith,
+      simp length-set l.invariant.1,
+      rw c.spread.ensures
+          (table_more nan (slot_at c.args.results.now) l.slot l.i (omega arith) l.invariant.2),
+    )
+
+pub returns : goal.returns
+returns c = λ k h. c.loop-i.invariant.2 k (omega arith)

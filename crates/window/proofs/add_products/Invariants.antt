@@ -1,0 +1,12 @@
+use mathlib.Core.Path.{◌≡◌, refl}
+use Prim.Native.Nat.{◌+◌, ◌-◌, ◌≤◌}
+use native.Mathlib.Omega.{arith}
+use Rattle.window.specs.Output.{taps}
+use Rattle.window.proofs.Products.{product_more}
+use Rattle.window.proofs.add_products.Given as goal
+
+abbrev pub invariant-loop-k : goal.invariant-loop-k
+invariant-loop-k l = (l.k ≤ 8) × (l.total ≡ taps l.ring (l.row + l.j) (l.start + l.j) l.k l.sum)
+
+abbrev pub decreases-loop-k : goal.decreases-loop-k
+decreases-loop-k l = 8 - l.k
