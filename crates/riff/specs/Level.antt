@@ -99,13 +99,11 @@ length_pcm (x ∷ xs) = let r = length_pcm xs in omega arith
 pub low_byte : (xs : List Float) (i : ℕ) → i < length xs → get_or (pcm_of xs) (2 * i) 0 ≡ bits16 (level_of (get_or xs i nan)) % 256
 unfolding pcm_of
 low_byte [] i h = elim h [ ]
-low_byte [] i h = elim h [ ]
 low_byte (x ∷ xs) zero h = refl
 low_byte (x ∷ xs) (suc i) h = let e : 2 * suc i ≡ suc (suc (2 * i)) = omega arith in rw e (low_byte xs i (omega arith))
 
 pub high_byte : (xs : List Float) (i : ℕ) → i < length xs → get_or (pcm_of xs) (2 * i + 1) 0 ≡ bits16 (level_of (get_or xs i nan)) / 256
 unfolding pcm_of
-high_byte [] i h = elim h [ ]
 high_byte [] i h = elim h [ ]
 high_byte (x ∷ xs) zero h = refl
 high_byte (x ∷ xs) (suc i) h = let e : 2 * suc i + 1 ≡ suc (suc (2 * i + 1)) = omega arith in rw e (high_byte xs i (omega arith))
@@ -118,7 +116,6 @@ length_words (x ∷ xs) = let r = length_words xs in omega arith
 
 pub word_at : (xs : List Float) (i : ℕ) → i < length xs → get_or (words_of xs) i 0 ≡ bits16 (level_of (get_or xs i nan))
 unfolding words_of
-word_at [] i h = elim h [ ]
 word_at [] i h = elim h [ ]
 word_at (x ∷ xs) zero h = refl
 word_at (x ∷ xs) (suc i) h = word_at xs i (omega arith)

@@ -4,7 +4,6 @@ use native.Mathlib.Nat.{one-mul}
 use native.Mathlib.Omega.{arith}
 use lib.Dec.{lit<}
 use lib.Pow.{pow_pos, pow_mono, shl_exact}
-use borrow.Author.Rules.{rules}
 use Rattle.riff.proofs.Rounding.{far_below, one_or_more, between}
 use Rattle.riff.proofs.steps.Goals as goal
 

@@ -1,13 +1,7 @@
-use mathlib.Core.Path.{◌≡◌, sym, ap, ◌∙◌}
-use Prim.Native.Nat.{ℕ, ◌+◌, ◌-◌, ◌*◌, ◌/◌, ◌%◌, ◌<◌, ◌≤◌}
-use borrow.Author.Rules.{rules}
-use native.Mathlib.Omega.{arith}
-use lib.ListN.{length, get_or, set, length-set}
-use mathlib.Core.List.{List}
-use lib.Ieee.{Float, nan}
-use lib.Seq.{ext_get_or}
-use Rattle.ground.specs.Table.{table_more}
-use Rattle.riff.specs.Level.{pcm_of, sixteen, length_pcm, low_byte, high_byte}
+use mathlib.Core.Path.{◌≡◌}
+use Prim.Native.Nat.{ℕ, ◌-◌, ◌*◌, ◌<◌, ◌≤◌}
+use lib.ListN.{length, get_or}
+use Rattle.riff.specs.Level.{pcm_of}
 use Rattle.riff.proofs.write_samples.Given as goal
 
 abbrev pub invariant-loop-i : goal.invariant-loop-i

@@ -1,12 +1,7 @@
-use mathlib.Core.Path.{◌≡◌, sym, ◌∙◌}
+use mathlib.Core.Path.{◌≡◌}
 use Prim.Native.Nat.{ℕ, ◌-◌, ◌<◌, ◌≤◌}
-use borrow.Author.Rules.{rules}
-use native.Mathlib.Omega.{arith}
-use lib.ListN.{length, get_or, length-set}
-use lib.Ieee.{nan}
-use lib.Seq.{ext_get_or}
-use Rattle.ground.specs.Table.{table_more}
-use Rattle.riff.specs.Level.{words_of, sixteen, length_words, word_at}
+use lib.ListN.{length, get_or}
+use Rattle.riff.specs.Level.{words_of}
 use Rattle.riff.proofs.write_words.Given as goal
 
 abbrev pub invariant-loop-i : goal.invariant-loop-i

@@ -1,5 +1,4 @@
 use Rattle.tables.specs.Source.{width_of}
-use borrow.Author.Rules.{rules}
 use Rattle.tables.proofs.allocation_bits.Goals as goal
 
 pub returns : goal.returns

@@ -1,6 +1,5 @@
 use lib.Dec.{eqb}
 use Rattle.tables.specs.Differences.{table_of, same_table}
-use borrow.Author.Rules.{rules}
 use Rattle.tables.proofs.allocation_table.Goals as goal
 
 pub returns : goal.returns

@@ -1,5 +1,4 @@
 use Rattle.tables.specs.Source.{class_of}
-use borrow.Author.Rules.{rules}
 use Rattle.tables.proofs.class.Goals as goal
 
 pub returns-then-mono : goal.returns-then-mono

@@ -1,7 +1,6 @@
 use native.Mathlib.Omega.{arith}
 use Rattle.tables.specs.Standard.{classes, quantisation_of, code_bits_of}
 use Rattle.tables.proofs.Quantisers.{bits_rule}
-use borrow.Author.Rules.{rules}
 use Rattle.tables.proofs.code_bits.Goals as goal
 
 pub returns-in-0 : goal.returns-in-0

@@ -3,7 +3,6 @@ use mathlib.Core.Path.{sym, ◌∙◌}
 use native.Mathlib.Omega.{arith}
 use Rattle.tables.specs.Laws.{bits≤16}
 use Rattle.tables.proofs.Quantisers.{power_positive, levels_rule}
-use borrow.Author.Rules.{rules}
 use Rattle.tables.proofs.levels.Goals as goal
 
 -- `tables::levels` meets its contract: 2 q + 1 for the grouped quantisers, a power of 2 less 1 for the others.

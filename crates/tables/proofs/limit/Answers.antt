@@ -1,7 +1,6 @@
 use lib.Dec.{eqb}
 use Rattle.tables.specs.Standard.{limit_of}
 use Rattle.tables.specs.Differences.{same_limit}
-use borrow.Author.Rules.{rules}
 use Rattle.tables.proofs.limit.Goals as goal
 
 pub returns : goal.returns

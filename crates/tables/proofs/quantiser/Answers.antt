@@ -1,7 +1,6 @@
 use native.Mathlib.Omega.{arith}
 use Rattle.tables.specs.Source.{quantiser_of}
 use Rattle.tables.specs.Laws.{row≤4}
-use borrow.Author.Rules.{rules}
 use Rattle.tables.proofs.quantiser.Goals as goal
 
 pub bounds-quantisers-row : goal.bounds-quantisers-row

@@ -1,7 +1,6 @@
 use mathlib.Core.Path.{ap, sym, ◌∙◌}
 use native.Mathlib.Omega.{arith}
 use Rattle.tables.specs.Source.{source_row_of}
-use borrow.Author.Rules.{rules}
 use Rattle.tables.proofs.row.Goals as goal
 
 pub returns-then-table-eq0 : goal.returns-then-table-eq0

@@ -1,10 +1,9 @@
-use mathlib.Core.Path.{◌≡◌, refl}
-use Prim.Native.Nat.{ℕ, ◌-◌, ◌<◌, ◌≤◌}
+use mathlib.Core.Path.{refl}
 use native.Mathlib.Omega.{arith}
 use lib.ListN.{length, length-set}
 use lib.Ieee.{nan}
 use Rattle.ground.specs.Table.{table_more, is_table}
-use Rattle.transform.specs.Transform.{at, sums_of, differences_of, sum_at, difference_at}
+use Rattle.transform.specs.Transform.{sums_of, differences_of, sum_at, difference_at}
 use Rattle.transform.proofs.halve.Goals as goal
 
 pub loop-i-init : goal.loop-i-init

@@ -1,10 +1,7 @@
-use mathlib.Core.Path.{◌≡◌, refl}
+use mathlib.Core.Path.{◌≡◌}
 use Prim.Native.Nat.{ℕ, ◌-◌, ◌<◌, ◌≤◌}
-use native.Mathlib.Omega.{arith}
-use lib.ListN.{length, length-set}
-use lib.Ieee.{nan}
-use Rattle.ground.specs.Table.{table_more, is_table}
-use Rattle.transform.specs.Transform.{at, sums_of, differences_of, sum_at, difference_at}
+use lib.ListN.{length}
+use Rattle.transform.specs.Transform.{at, sum_at, difference_at}
 use Rattle.transform.proofs.halve.Given as goal
 
 abbrev pub invariant-loop-i : goal.invariant-loop-i

@@ -1,5 +1,4 @@
 use Rattle.transform.specs.Transform.{idct}
-use borrow.Author.Rules.{rules}
 use Rattle.transform.proofs.idct36.Goals as goal
 
 pub returns : goal.returns

@@ -1,5 +1,3 @@
-use mathlib.Core.Path.{◌≡◌}
-use Prim.Native.Nat.{ℕ, ◌-◌, ◌<◌, ◌≤◌}
 use native.Mathlib.Omega.{arith}
 use mir.Syntax.{w32}
 use mir.ValLaws.{to_z-of_z}
@@ -7,7 +5,7 @@ use lib.IntN.{pos}
 use lib.ListN.{length, length-set, get_or}
 use lib.Ieee.{nan}
 use Rattle.ground.specs.Table.{table_more, is_table}
-use Rattle.transform.specs.Transform.{at, float_at, floats}
+use Rattle.transform.specs.Transform.{float_at, floats}
 use Rattle.transform.proofs.load.Goals as goal
 
 pub loop-i-init : goal.loop-i-init

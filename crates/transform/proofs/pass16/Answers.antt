@@ -5,7 +5,6 @@ use lib.ListN.{length}
 use lib.Ieee.{Float}
 use Rattle.transform.specs.Transform.{at, halving_factors, differences_of}
 use Rattle.transform.proofs.Halving.{wide}
-use borrow.Author.Rules.{rules}
 use Rattle.transform.proofs.pass16.Goals as goal
 
 pub halve-requires : goal.halve-requires

@@ -1,4 +1,3 @@
-use borrow.Author.Rules.{rules}
 use Rattle.transform.proofs.Halving.{narrow}
 use Rattle.transform.specs.Transform.{halving_factors}
 use Rattle.transform.proofs.pass2.Goals as goal

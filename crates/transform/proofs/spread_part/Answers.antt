@@ -1,10 +1,8 @@
-use mathlib.Core.Path.{◌≡◌}
-use Prim.Native.Nat.{ℕ, ◌-◌, ◌<◌, ◌≤◌}
 use native.Mathlib.Omega.{arith}
-use lib.ListN.{length, length-set}
+use lib.ListN.{length-set}
 use lib.Ieee.{nan}
 use Rattle.ground.specs.Table.{table_more}
-use Rattle.transform.specs.Transform.{at, slot_at}
+use Rattle.transform.specs.Transform.{slot_at}
 use Rattle.transform.proofs.spread_part.Goals as goal
 
 pub loop-i-init : goal.loop-i-init

@@ -1,9 +1,6 @@
 use mathlib.Core.Path.{◌≡◌}
 use Prim.Native.Nat.{ℕ, ◌-◌, ◌<◌, ◌≤◌}
-use native.Mathlib.Omega.{arith}
-use lib.ListN.{length, length-set}
-use lib.Ieee.{nan}
-use Rattle.ground.specs.Table.{table_more}
+use lib.ListN.{length}
 use Rattle.transform.specs.Transform.{at, slot_at}
 use Rattle.transform.proofs.spread_part.Given as goal
 

@@ -2,7 +2,6 @@ use native.Mathlib.Omega.{arith}
 use lib.Ieee.{nan}
 use Rattle.transform.specs.Transform.{slot_at, slot_of}
 use Rattle.ground.specs.Table.{is_table}
-use borrow.Author.Rules.{rules}
 use Rattle.transform.proofs.store.Goals as goal
 
 -- `transform::store` meets its contract: part by part all 64 values stand. Assumes nothing.

@@ -1,9 +1,8 @@
-use mathlib.Core.Path.{◌≡◌, refl}
-use Prim.Native.Nat.{ℕ, ◌-◌, ◌<◌, ◌≤◌}
+use mathlib.Core.Path.{refl}
 use native.Mathlib.Omega.{arith}
 use lib.ListN.{length, length-set}
 use Rattle.transform.specs.Transform.{at, joined_at}
-use Rattle.transform.proofs.Halving.{Pair, weave_more, is_woven}
+use Rattle.transform.proofs.Halving.{weave_more, is_woven}
 use Rattle.transform.proofs.weave.Goals as goal
 
 pub loop-i-init : goal.loop-i-init

@@ -1,9 +1,8 @@
-use mathlib.Core.Path.{◌≡◌, refl}
+use mathlib.Core.Path.{◌≡◌}
 use Prim.Native.Nat.{ℕ, ◌-◌, ◌<◌, ◌≤◌}
-use native.Mathlib.Omega.{arith}
-use lib.ListN.{length, length-set}
+use lib.ListN.{length}
 use Rattle.transform.specs.Transform.{at, joined_at}
-use Rattle.transform.proofs.Halving.{Pair, weave_more, is_woven}
+use Rattle.transform.proofs.Halving.{Pair}
 use Rattle.transform.proofs.weave.Given as goal
 
 abbrev pub invariant-loop-i : goal.invariant-loop-i

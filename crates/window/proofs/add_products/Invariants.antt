@@ -1,8 +1,6 @@
-use mathlib.Core.Path.{◌≡◌, refl}
+use mathlib.Core.Path.{◌≡◌}
 use Prim.Native.Nat.{◌+◌, ◌-◌, ◌≤◌}
-use native.Mathlib.Omega.{arith}
 use Rattle.window.specs.Output.{taps}
-use Rattle.window.proofs.Products.{product_more}
 use Rattle.window.proofs.add_products.Given as goal
 
 abbrev pub invariant-loop-k : goal.invariant-loop-k

@@ -1,6 +1,5 @@
 use lib.Ieee.{neg, of_bits}
 use Rattle.window.specs.Output.{output_of}
-use borrow.Author.Rules.{rules}
 use Rattle.window.proofs.output_at.Goals as goal
 
 pub returns : goal.returns

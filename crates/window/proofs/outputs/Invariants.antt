@@ -1,9 +1,7 @@
 use mathlib.Core.Path.{◌≡◌}
 use Prim.Native.Nat.{ℕ, ◌-◌, ◌<◌, ◌≤◌}
-use native.Mathlib.Omega.{arith}
-use lib.ListN.{length, get_or, length-set}
+use lib.ListN.{length, get_or}
 use lib.Ieee.{nan}
-use Rattle.ground.specs.Table.{is_table, table_more}
 use Rattle.window.specs.Output.{output_of}
 use Rattle.window.proofs.outputs.Given as goal
 

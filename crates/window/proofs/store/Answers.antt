@@ -1,9 +1,7 @@
 use mathlib.Core.Path.{◌≡◌, refl}
-use Prim.Native.Nat.{◌-◌, ◌≤◌}
 use native.Mathlib.Numerals.{add-one}
 use native.Mathlib.Omega.{arith}
-use lib.ListN.{length, get_or, length-set}
-use lib.Ieee.{nan}
+use lib.ListN.{length-set}
 use Rattle.window.specs.Output.{stores}
 use Rattle.window.proofs.store.Goals as goal
 

@@ -5,7 +5,6 @@ use lib.Ieee.{Float, nan}
 use Rattle.ground.specs.Table.{at_table}
 use Rattle.window.specs.Output.{output_of}
 use Rattle.window.proofs.Stores.{stores_alike}
-use borrow.Author.Rules.{rules}
 use Rattle.window.proofs.window_slot.Goals as goal
 
 pub returns : goal.returns

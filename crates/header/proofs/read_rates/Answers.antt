@@ -1,0 +1,36 @@
+use lib.Dec.{eqb}
+use native.Mathlib.Omega.{arith}
+use Rattle.ground.specs.Tests.{neither}
+use mathlib.Core.Path.{sym}
+use Rattle.grammar.specs.Run.{field_then, run_done}
+use borrow.Author.Tests.{eqb-false, eq-eqb, ne_eqb}
+use Rattle.header.specs.Header.{rates_of}
+use borrow.Author.Rules.{rules}
+use Rattle.header.proofs.read_rates.Goals as goal
+
+pub returns-then-bitrate : goal.returns-then-bitrate
+unfolding rates_of
+returns-then-bitrate c = field_then _ _ _ _ c.field-bitrate.ensures.is (rw c.if-bitrate.true (sym (run_done _ _ _)))
+
+pub returns-then-samplerate-eq3 : goal.returns-then-samplerate-eq3
+unfolding rates_of
+returns-then-samplerate-eq3 c =
+    field_then _ _ _ _ c.field-bitrate.ensures.is
+    (rw c.if-bitrate.false
+    (field_then _ _ _ _ c.field-samplerate.ensures.is
+    (rw (eq-eqb _ _ c.if-samplerate-eq3.true) (sym (run_done _ _ _)))))
+
+pub overflow_sub-result : goal.overflow_sub-result
+overflow_sub-result c =
+    let b = c.field-bitrate.result.value in
+    let n = eqb-false b 0 (neither (eqb b 0) (eqb b 15) c.if-bitrate.false).0 in
+    omega arith
+
+pub returns : goal.returns
+unfolding rates_of
+returns c =
+    field_then _ _ _ _ c.field-bitrate.ensures.is
+    (rw c.if-bitrate.false
+    (field_then _ _ _ _ c.field-samplerate.ensures.is
+    (rw (ne_eqb _ _ c.if-samplerate-eq3.false)
+    (field_then _ _ _ _ c.field-padding.ensures.is (sym (run_done _ _ _))))))

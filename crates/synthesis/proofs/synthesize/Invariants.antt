@@ -1,0 +1,19 @@
+use borrow.Author.Rules.{rules}
+use mathlib.Core.Path.{◌≡◌, refl, sym, ◌∙◌}
+use Prim.Native.Nat.{◌-◌, ◌≤◌}
+use native.Mathlib.Omega.{arith}
+use lib.ListN.{length}
+use Rattle.window.specs.Output.{Place}
+use Rattle.synthesis.specs.Slots.{position_after, slot_samples, memory_after, output_after, interleaved}
+use Rattle.synthesis.specs.Ring.{placed_before}
+use Rattle.synthesis.specs.Memory.{memory_zero}
+use Rattle.synthesis.proofs.Halves.{slot_more}
+use Rattle.synthesis.proofs.synthesize.Given as goal
+
+abbrev pub invariant-loop-n : goal.invariant-loop-n
+invariant-loop-n l =
+    (l.n ≤ 3) × Place l.position × (l.position ≡ position_after l.p l.n) × (length l.memory ≡ length l.initial.memory) × (length l.output ≡ length l.initial.output)
+    × (l.memory ≡ memory_after (slot_samples l.sample) l.p l.initial.memory l.n) × (l.output ≡ output_after (slot_samples l.sample) l.p l.initial.memory l.initial.output l.at l.n)
+
+abbrev pub decreases-loop-n : goal.decreases-loop-n
+decreases-loop-n l = 3 - l.n
