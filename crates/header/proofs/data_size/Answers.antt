@@ -1,7 +1,6 @@
 use native.Mathlib.Omega.{arith}
 use Rattle.header.specs.Header.{size_of}
 use Rattle.header.specs.Accepted.{frame_sizes}
-use borrow.Author.Rules.{rules}
 use Rattle.header.proofs.data_size.Goals as goal
 
 pub overflow_mul-frame : goal.overflow_mul-frame

@@ -1,6 +1,5 @@
 use mathlib.Core.Path.{ap, sym, ◌∙◌}
 use Rattle.header.specs.Header.{header_of, by_start, attempt}
-use borrow.Author.Rules.{rules}
 use Rattle.header.proofs.decode_header.Goals as goal
 
 pub returns-in-At : goal.returns-in-At

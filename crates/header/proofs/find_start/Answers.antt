@@ -1,6 +1,5 @@
 use mathlib.Core.Path.{ap, sym, ◌∙◌}
 use Rattle.header.specs.Header.{start_of, by_has, by_skip}
-use borrow.Author.Rules.{rules}
 use Rattle.header.proofs.find_start.Goals as goal
 
 pub returns-in-No : goal.returns-in-No

@@ -1,6 +1,5 @@
 use Rattle.grammar.specs.Reads.{run}
 use Rattle.header.specs.Header.{check_of}
-use borrow.Author.Rules.{rules}
 use Rattle.header.proofs.pass_check.Goals as goal
 
 pub returns-then-check : goal.returns-then-check

@@ -1,7 +1,6 @@
 use mathlib.Core.Path.{sym}
 use Rattle.grammar.specs.Run.{field_then, and_then, run_done}
 use Rattle.header.specs.Header.{bound_of}
-use borrow.Author.Rules.{rules}
 use Rattle.header.proofs.read_bound.Goals as goal
 
 pub returns : goal.returns

@@ -2,7 +2,6 @@ use mathlib.Core.Path.{ap, sym, ◌∙◌}
 use Rattle.grammar.specs.Run.{and_then, run_done}
 use Rattle.grammar.specs.Reads.{ran}
 use Rattle.header.specs.Header.{fields_of}
-use borrow.Author.Rules.{rules}
 use Rattle.header.proofs.read_fields.Goals as goal
 
 pub returns-in-LayerII : goal.returns-in-LayerII

@@ -4,7 +4,6 @@ use Rattle.grammar.specs.Reads.{ran}
 use Rattle.grammar.specs.Values.{learnt}
 use Rattle.header.specs.Header.{rates_of}
 use Rattle.header.specs.Accepted.{KnownRates, rates_known}
-use borrow.Author.Rules.{rules}
 use Rattle.header.proofs.read_format.Goals as goal
 
 pub read_rest-requires : goal.read_rest-requires

@@ -1,7 +1,6 @@
 use mathlib.Core.Path.{sym}
 use Rattle.grammar.specs.Run.{field_then, run_done}
 use Rattle.header.specs.Header.{ident_of}
-use borrow.Author.Rules.{rules}
 use Rattle.header.proofs.read_ident.Goals as goal
 
 pub returns-then-version-layer : goal.returns-then-version-layer

@@ -1,6 +1,5 @@
 use Rattle.grammar.specs.Reads.{run}
 use Rattle.header.specs.Header.{mode_of}
-use borrow.Author.Rules.{rules}
 use Rattle.header.proofs.read_mode.Goals as goal
 
 pub returns : goal.returns

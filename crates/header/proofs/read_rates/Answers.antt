@@ -5,7 +5,6 @@ use mathlib.Core.Path.{sym}
 use Rattle.grammar.specs.Run.{field_then, run_done}
 use borrow.Author.Tests.{eqb-false, eq-eqb, ne_eqb}
 use Rattle.header.specs.Header.{rates_of}
-use borrow.Author.Rules.{rules}
 use Rattle.header.proofs.read_rates.Goals as goal
 
 pub returns-then-bitrate : goal.returns-then-bitrate

@@ -2,7 +2,6 @@ use mathlib.Core.Path.{sym, ◌∙◌}
 use borrow.Author.Tests.{ne_eqb}
 use Rattle.grammar.specs.Run.{and_then, run_done}
 use Rattle.header.specs.Header.{rest_of}
-use borrow.Author.Rules.{rules}
 use Rattle.header.proofs.read_rest.Goals as goal
 
 pub returns-then-number-ne0 : goal.returns-then-number-ne0

@@ -1,5 +1,4 @@
 use mathlib.Core.Path.{sym, ◌∙◌}
-use borrow.Author.Rules.{rules}
 use Rattle.header.proofs.refused_after_mode.Goals as goal
 
 pub returns-then-barred : goal.returns-then-barred

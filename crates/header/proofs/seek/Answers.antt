@@ -1,6 +1,5 @@
 use mathlib.Core.Path.{ap, sym, ◌∙◌}
 use Rattle.header.specs.Header.{seek_of, by_search}
-use borrow.Author.Rules.{rules}
 use Rattle.header.proofs.seek.Goals as goal
 
 pub returns-in-Found : goal.returns-in-Found

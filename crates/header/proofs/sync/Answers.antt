@@ -1,6 +1,5 @@
 use Rattle.header.specs.Header.{sync_of}
 use borrow.Author.Tests.{eq-eqb, ne_eqb}
-use borrow.Author.Rules.{rules}
 use Rattle.header.proofs.sync.Goals as goal
 
 pub returns-then-ones-eq-FRAME_SYNC : goal.returns-then-ones-eq-FRAME_SYNC

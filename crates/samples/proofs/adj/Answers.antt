@@ -2,9 +2,8 @@ use Prim.Native.Nat.{ℕ, ◌≤◌, ◌<◌}
 use mathlib.Core.Path.{◌≡◌}
 use native.Mathlib.Omega.{arith}
 use Rattle.tables.specs.Standard.{levels_of}
-use Rattle.tables.specs.Laws.{QuantiserSizes, sized}
+use Rattle.tables.specs.Laws.{sized}
 use Rattle.samples.specs.Sample.{adj_of}
-use borrow.Author.Rules.{rules}
 use Rattle.samples.proofs.adj.Goals as goal
 
 -- the levels of a quantiser

@@ -1,4 +1,3 @@
-use borrow.Author.Rules.{rules}
 use Rattle.samples.proofs.digits.Goals as goal
 
 pub returns-in-3 : goal.returns-in-3

@@ -5,7 +5,6 @@ use lib.Dec.{T, eqb, ltb, eqb→eq, ltb→lt}
 use lib.ListN.{get_or}
 use Rattle.ground.specs.Upto.{below, and_left, and_right}
 use Rattle.samples.specs.Sample.{factor_of, bases}
-use borrow.Author.Rules.{rules}
 use Rattle.samples.proofs.factor.Goals as goal
 
 -- `samples::factor` meets its contract: a test of what the code computes, at each index below 63.

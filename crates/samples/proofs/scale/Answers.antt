@@ -4,7 +4,6 @@ use Rattle.tables.specs.Standard.{classes, quantisation_of, levels_of}
 use Rattle.tables.specs.Laws.{bits≤16}
 use Rattle.samples.specs.Sample.{scale_of}
 use Rattle.samples.proofs.Quantisers.{scale_rule}
-use borrow.Author.Rules.{rules}
 use Rattle.samples.proofs.scale.Goals as goal
 
 -- `samples::scale` meets its contract: the grouped quantisers one by one, the others by the rule.

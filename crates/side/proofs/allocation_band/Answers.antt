@@ -3,7 +3,6 @@ use Rattle.grammar.specs.Run.{run_done, and_then}
 use Rattle.side.specs.Bands.{pair_of}
 use Rattle.side.specs.Side.{allocation_band_of}
 use native.Mathlib.Omega.{arith}
-use borrow.Author.Rules.{rules}
 use Rattle.side.proofs.allocation_band.Goals as goal
 
 -- `side::allocation_band` meets its contract.

@@ -1,12 +1,10 @@
 use borrow.Author.Rules.{rules}
-use Prim.Native.Nat.{◌≤◌, ◌-◌}
 use mathlib.Core.Path.{◌≡◌, refl}
 use native.Mathlib.Numerals.{add-one}
 use native.Mathlib.Omega.{arith}
-use Rattle.grammar.specs.Reads.{run, ran}
+use Rattle.grammar.specs.Reads.{run}
 use Rattle.grammar.specs.Run.{and_then}
 use Rattle.side.specs.Bands.{bands}
-use Rattle.side.specs.Side.{allocations_of}
 use Rattle.side.proofs.allocations.Goals as goal
 
 pub loop-sb-init : goal.loop-sb-init

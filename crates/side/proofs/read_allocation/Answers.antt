@@ -9,7 +9,6 @@ use Rattle.grammar.specs.Run.{field_then, run_done}
 use Rattle.tables.specs.Source.{width_of}
 use Rattle.tables.specs.Laws.{width≤4}
 use Rattle.side.specs.Side.{allocation_of}
-use borrow.Author.Rules.{rules}
 use Rattle.side.proofs.read_allocation.Goals as goal
 
 pub quantiser-requires : goal.quantiser-requires

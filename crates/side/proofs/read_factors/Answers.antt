@@ -1,5 +1,4 @@
 use Rattle.side.proofs.Choices.{one_factor, first_twice, second_twice, three_factors}
-use borrow.Author.Rules.{rules}
 use Rattle.side.proofs.read_factors.Goals as goal
 
 pub returns-then-selector-eq2 : goal.returns-then-selector-eq2

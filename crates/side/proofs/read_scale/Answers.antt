@@ -1,6 +1,5 @@
 use borrow.Author.Tests.{eq-eqb, ne_eqb}
 use Rattle.grammar.specs.Run.{run_done}
-use borrow.Author.Rules.{rules}
 use Rattle.side.proofs.read_scale.Goals as goal
 
 pub returns-then-quant-place-eq0 : goal.returns-then-quant-place-eq0

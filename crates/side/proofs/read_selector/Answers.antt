@@ -1,7 +1,6 @@
 use borrow.Author.Tests.{eq-eqb, ne_eqb}
 use Rattle.grammar.specs.Run.{run_done, field_then}
 use Rattle.side.specs.Side.{selector_of}
-use borrow.Author.Rules.{rules}
 use Rattle.side.proofs.read_selector.Goals as goal
 
 pub returns-then-quant-place-eq0 : goal.returns-then-quant-place-eq0

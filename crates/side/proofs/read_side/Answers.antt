@@ -1,7 +1,6 @@
 use mathlib.Core.Path.{sym}
 use Rattle.grammar.specs.Run.{run_done, and_then}
 use Rattle.side.specs.Side.{side_of}
-use borrow.Author.Rules.{rules}
 use Rattle.side.proofs.read_side.Goals as goal
 
 pub returns : goal.returns

@@ -1,6 +1,5 @@
 use Rattle.grammar.specs.Run.{run_done, and_then}
 use Rattle.side.specs.Bands.{pair_of, channels_of}
-use borrow.Author.Rules.{rules}
 use Rattle.side.proofs.scale_band.Goals as goal
 
 pub returns-then-mono : goal.returns-then-mono

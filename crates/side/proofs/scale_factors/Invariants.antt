@@ -1,11 +1,6 @@
-use borrow.Author.Rules.{rules}
 use Prim.Native.Nat.{◌≤◌, ◌-◌}
-use mathlib.Core.Path.{◌≡◌, refl}
-use native.Mathlib.Numerals.{add-one}
-use native.Mathlib.Omega.{arith}
+use mathlib.Core.Path.{◌≡◌}
 use Rattle.grammar.specs.Reads.{run, ran}
-use Rattle.grammar.specs.Run.{and_then}
-use Rattle.side.specs.Bands.{bands}
 use Rattle.side.specs.Side.{scale_factors_of}
 use Rattle.side.proofs.scale_factors.Given as goal
 

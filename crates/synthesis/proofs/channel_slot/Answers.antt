@@ -1,5 +1,4 @@
 use Rattle.synthesis.proofs.Halves.{channel}
-use borrow.Author.Rules.{rules}
 use Rattle.synthesis.proofs.channel_slot.Goals as goal
 
 pub returns : goal.returns

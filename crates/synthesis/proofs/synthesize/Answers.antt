@@ -1,10 +1,7 @@
 use borrow.Author.Rules.{rules}
 use mathlib.Core.Path.{◌≡◌, refl, sym, ◌∙◌}
-use Prim.Native.Nat.{◌-◌, ◌≤◌}
 use native.Mathlib.Omega.{arith}
-use lib.ListN.{length}
-use Rattle.window.specs.Output.{Place}
-use Rattle.synthesis.specs.Slots.{position_after, slot_samples, memory_after, output_after, interleaved}
+use Rattle.synthesis.specs.Slots.{position_after, slot_samples, output_after, interleaved}
 use Rattle.synthesis.specs.Ring.{placed_before}
 use Rattle.synthesis.specs.Memory.{memory_zero}
 use Rattle.synthesis.proofs.Halves.{slot_more}
@@ -28,7 +25,7 @@ loop-n-preserved c =
     let t =
     slot_more (slot_samples a.sample.now) c.requires.0 a.memory.now c.requires.1 l.n a.output.now a.at l.position l.memory _
     l.output _ l.invariant.2 l.invariant.5 l.invariant.6 (w.ensures.memory_after, w.ensures.output_after) in
-    (omega arith, placed_before l.invariant.1, t.0, w.auto.0 ∙ l.invariant.3, omega arith, t.1, t.2)
+    (omega arith, placed_before l.invariant.1, t.0, w.auto.memory ∙ l.invariant.3, omega arith, t.1, t.2)
 
 pub shape_of-memory : goal.shape_of-memory
 shape_of-memory c = c.loop-n.invariant.3

@@ -1,13 +1,8 @@
-use borrow.Author.Rules.{rules}
-use mathlib.Core.Path.{◌≡◌, refl, sym, ◌∙◌}
+use mathlib.Core.Path.{◌≡◌}
 use Prim.Native.Nat.{◌-◌, ◌≤◌}
-use native.Mathlib.Omega.{arith}
 use lib.ListN.{length}
 use Rattle.window.specs.Output.{Place}
-use Rattle.synthesis.specs.Slots.{position_after, slot_samples, memory_after, output_after, interleaved}
-use Rattle.synthesis.specs.Ring.{placed_before}
-use Rattle.synthesis.specs.Memory.{memory_zero}
-use Rattle.synthesis.proofs.Halves.{slot_more}
+use Rattle.synthesis.specs.Slots.{position_after, slot_samples, memory_after, output_after}
 use Rattle.synthesis.proofs.synthesize.Given as goal
 
 abbrev pub invariant-loop-n : goal.invariant-loop-n

@@ -1,0 +1,18 @@
+use borrow.Author.Rules.{rules}
+use Prim.Native.Nat.{◌≤◌, ◌-◌}
+use mathlib.Core.Path.{◌≡◌, refl}
+use native.Mathlib.Numerals.{add-one}
+use native.Mathlib.Omega.{arith}
+use Rattle.grammar.specs.Reads.{run, ran}
+use Rattle.grammar.specs.Run.{and_then}
+use Rattle.side.specs.Bands.{bands}
+use Rattle.codes.specs.Frame.{samples_from}
+use Rattle.side.specs.Below.{side_with}
+use Rattle.codes.proofs.read_granule.Given as goal
+
+abbrev pub invariant-loop-sb : goal.invariant-loop-sb
+invariant-loop-sb l =
+    (l.sb ≤ l.limit) × (ran l.sample l.next ≡ run (samples_from (side_with l.quant l.factor) l.part l.bound l.sb l.initial.sample) l.s l.initial.next)
+
+abbrev pub decreases-loop-sb : goal.decreases-loop-sb
+decreases-loop-sb l = l.limit - l.sb
