@@ -1,0 +1,7 @@
+use Rattle.frame.specs.Frame.{cut_format}
+use borrow.Author.Rules.{rules}
+use Rattle.frame.proofs.cut_format.Goals as goal
+
+pub returns : goal.returns
+unfolding cut_format
+returns c = cc (c.cut.ensures, c.limit-limit.ensures)

@@ -1,0 +1,48 @@
+use borrow.Author.Rules.{rules}
+use Prim.Native.Nat.{◌≤◌, ◌-◌, ◌*◌}
+use mathlib.Core.Path.{◌≡◌, refl}
+use native.Mathlib.Omega.{arith}
+use lib.ListN.{length}
+use Rattle.side.specs.Below.{side_with}
+use Rattle.synthesis.specs.Ring.{place_after}
+use Rattle.frame.specs.Frame.{frame_memory, frame_output}
+use Rattle.frame.proofs.Twelve.{After, after_none, after_more}
+use Rattle.frame.proofs.granules.Goals as goal
+
+pub loop-g-init : goal.loop-g-init
+loop-g-init c = (omega arith, refl, refl, after_none _ _ _ _ _ _ _ _)
+
+pub granule-at-requires : goal.granule-at-requires
+granule-at-requires c =
+    let l = c.loop-g in
+    let lent = c.requires in (
+      omega arith,
+      record {
+        limited = lent.limited;
+        quantisers = lent.quantisers;
+        factors = lent.factors;
+        place = rw l.invariant.3.place (place_after lent.place (3 * l.g));
+        window_is = lent.window_is;
+        memory_long = omega (arith, lent.memory_long);
+        output_long = omega (arith, lent.output_long);
+      },
+    )
+
+pub loop-g-preserved : goal.loop-g-preserved
+loop-g-preserved c =
+    let lent = c.requires in
+    let e = c.granule-at.ensures in (
+      search rules,
+      search rules,
+      search rules,
+      after_more _ _ _ _ _ _ _ _ lent.place lent.memory_long _ _ _ _ _ c.loop-g.invariant.3 _ _ _ _
+          e.end_is e.ring_is e.memory_is e.output_is,
+    )
+
+pub returns : goal.returns
+unfolding frame_memory frame_output
+returns c =
+    let l = c.loop-g in
+    let done : l.g ≡ 12 = omega arith in
+    let a = rw done at l.invariant.3 in
+    record { end_is = a.read; ring_is = a.place; memory_is = a.kept; output_is = a.given }

@@ -1,0 +1,18 @@
+use borrow.Author.Rules.{rules}
+use Prim.Native.Nat.{◌≤◌, ◌-◌, ◌*◌}
+use mathlib.Core.Path.{◌≡◌, refl}
+use native.Mathlib.Omega.{arith}
+use lib.ListN.{length}
+use Rattle.side.specs.Below.{side_with}
+use Rattle.synthesis.specs.Ring.{place_after}
+use Rattle.frame.specs.Frame.{frame_memory, frame_output}
+use Rattle.frame.proofs.Twelve.{After, after_none, after_more}
+use Rattle.frame.proofs.granules.Given as goal
+
+abbrev pub invariant-loop-g : goal.invariant-loop-g
+invariant-loop-g l =
+    (l.g ≤ 12) × (length l.memory ≡ length l.initial.memory) × (length l.output ≡ length l.initial.output)
+    × After (side_with l.quant l.factor) l.bound l.limit l.s l.initial.at.end l.initial.at.ring l.initial.memory l.initial.output l.g l.at.end l.at.ring l.memory l.output
+
+abbrev pub decreases-loop-g : goal.decreases-loop-g
+decreases-loop-g l = 12 - l.g

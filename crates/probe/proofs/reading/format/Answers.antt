@@ -1,0 +1,5 @@
+use Rattle.std.proofs.Common.{rules}
+use Rattle.probe.proofs.reading.format.Goals as goal
+
+pub returns : goal.returns
+returns c = cc c.plain-reading.ensures
