@@ -1,0 +1,28 @@
+use borrow.Author.Rules.{rules}
+use mathlib.Core.Path.{◌∙◌, ap}
+use mathlib.Core.List.{[], ◌∷◌}
+use Rattle.audio.specs.Calls.{decode_of, decode_memory, decode_output}
+use Rattle.tag.specs.Boundary.{places_of, counts_of, time_of, played_of}
+use Rattle.tag.proofs.tag_decode.Goals as goal
+
+-- what audio promises of the state that was restored, handed on field by field
+pub returns : goal.returns
+returns c =
+    let begun = c.args in
+    let same = c.restore.ensures in
+    let call = c.decode-x.ensures in
+    let decoded = call.value ∙ ap (decode_of begun.stream.now begun.memory.now begun.output.now) same in
+    let played = c.of_answer-p.ensures ∙ ap (λ x. played_of x.answer) decoded in
+    record {
+      number_is = ap (λ y. y.number) played;
+      memory_is = call.memory_after ∙ ap (decode_memory begun.stream.now begun.memory.now begun.output.now) same;
+      output_is = call.output_after ∙ ap (decode_output begun.stream.now begun.memory.now begun.output.now) same;
+      state_is =
+          record {
+            places_hold = c.places_of.ensures ∙ ap (λ x. places_of x.skipped x.state) decoded;
+            counts_hold = c.counts_of.ensures ∙ ap (λ x. counts_of x.state) decoded;
+            time_holds = ap (λ x. time_of x.state) decoded;
+          };
+      start_is = ap (λ y. y.start ∷ []) played;
+      bits_are = ap (λ y. y.bits ∷ []) played;
+    }
