@@ -4,140 +4,157 @@
 // answers: streams/README.md says how they were made.
 #![tactic(auto)]
 
-use libc::{STDERR_FILENO, STDOUT_FILENO};
+use std::io::Result;
 
-// What each of these answers is whether standard output took all of it.
-fn put_number(n: u64) -> bool {
-    io::write_all(STDOUT_FILENO, b" ") & io::print_decimal(STDOUT_FILENO, n)
+// Each of these fails where standard output does not take all of it.
+fn put_number(rt: HostRuntime, n: u64) -> Result<()> {
+    print!(rt; " {n}")
 }
 
-fn put_count(n: u32) -> bool {
-    put_number(n as u64)
+fn put_count(rt: HostRuntime, n: u32) -> Result<()> {
+    put_number(rt, n as u64)
 }
 
-fn put_bits(n: u64) -> bool {
-    io::write_all(STDOUT_FILENO, b" ") & io::print_hex(STDOUT_FILENO, n, 16)
+fn put_bits(rt: HostRuntime, n: u64) -> Result<()> {
+    print!(rt; " {n:016x}")
 }
 
 // The six places of the state, what the call passed over, two counts, and the next start.
-fn put_state(places: &[usize; 8], counts: &[u32; 8], time: &[f64; 1]) -> bool {
-    let first = put_number(places[0] as u64) & put_number(places[1] as u64);
-    let second = put_number(places[2] as u64) & put_number(places[3] as u64);
-    let third = put_number(places[4] as u64) & put_number(places[5] as u64);
-    let passed = put_number(places[7] as u64);
-    let counted = put_count(counts[0]) & put_count(counts[1]);
-    first & second & third & passed & counted & put_bits(text::time_bits(time[0]))
+fn put_state(
+    rt: HostRuntime,
+    places: &[usize; 8],
+    counts: &[u32; 8],
+    time: &[f64; 1],
+) -> Result<()> {
+    put_number(rt, places[0] as u64)?;
+    put_number(rt, places[1] as u64)?;
+    put_number(rt, places[2] as u64)?;
+    put_number(rt, places[3] as u64)?;
+    put_number(rt, places[4] as u64)?;
+    put_number(rt, places[5] as u64)?;
+    put_number(rt, places[7] as u64)?;
+    put_count(rt, counts[0])?;
+    put_count(rt, counts[1])?;
+    put_bits(rt, text::time_bits(time[0]))
 }
 
-fn put_frame(start: f64, bits: usize, output: &[f32; synthesis::OUTPUT]) -> bool {
-    let begun = put_bits(text::time_bits(start)) & put_number(bits as u64);
-    begun & put_bits(text::checksum::sum(output))
+fn put_frame(
+    rt: HostRuntime,
+    start: f64,
+    bits: usize,
+    output: &[f32; synthesis::OUTPUT],
+) -> Result<()> {
+    put_bits(rt, text::time_bits(start))?;
+    put_number(rt, bits as u64)?;
+    put_bits(rt, text::checksum::sum(output))
 }
 
 // tag_format, and its line.
 fn format(
+    rt: HostRuntime,
     stream: &[u8],
     places: &mut [usize; 8],
     counts: &mut [u32; 8],
     time: &mut [f64; 1],
-) -> bool {
+) -> Result<()> {
     let mut rate = [0u32; 1];
     let mut kbps = [0u32; 1];
     let mut mode = [0u32; 1];
     let number = tag::tag_format(
         stream, places, counts, time, &mut rate, &mut kbps, &mut mode,
     );
-    let begun = io::write_all(STDOUT_FILENO, b"format") & put_count(number);
-    let stated = put_state(places, counts, time);
-    let told = put_count(rate[0]) & put_count(kbps[0]) & put_count(mode[0]);
-    begun & stated & told & io::write_all(STDOUT_FILENO, b"\n")
+    print!(rt; "format")?;
+    put_count(rt, number)?;
+    put_state(rt, places, counts, time)?;
+    put_count(rt, rate[0])?;
+    put_count(rt, kbps[0])?;
+    put_count(rt, mode[0])?;
+    println!(rt)
 }
 
-// After a call: the calls end, or go on, or standard output takes no more.
+// After a call: the calls end, or go on.
 #[derive(Clone, Copy)]
 enum Then {
     Last,
     More,
-    Failed,
 }
 
 // One call of tag_decode, and its line.
 fn decode(
+    rt: HostRuntime,
     stream: &[u8],
     memory: &mut [f32; synthesis::MEMORY],
     output: &mut [f32; synthesis::OUTPUT],
     places: &mut [usize; 8],
     counts: &mut [u32; 8],
     time: &mut [f64; 1],
-) -> Then {
+) -> Result<Then> {
     let mut start = [0.0f64; 1];
     let mut bits = [0usize; 1];
     let number = tag::tag_decode(
         stream, memory, output, places, counts, time, &mut start, &mut bits,
     );
-    let mut taken = io::write_all(STDOUT_FILENO, b"decode") & put_count(number);
-    taken = taken & put_state(places, counts, time);
+    print!(rt; "decode")?;
+    put_count(rt, number)?;
+    put_state(rt, places, counts, time)?;
     if number == 0 {
-        taken = taken & put_frame(start[0], bits[0], output);
+        put_frame(rt, start[0], bits[0], output)?;
     }
-    if !(taken & io::write_all(STDOUT_FILENO, b"\n")) {
-        return Then::Failed;
-    }
+    println!(rt)?;
     if audio::ends(number) {
-        return Then::Last;
+        return Ok(Then::Last);
     }
-    Then::More
+    Ok(Then::More)
 }
 
-// Answers whether standard output took all of it.
-fn play(stream: &[u8]) -> bool {
+fn play(rt: HostRuntime, stream: &[u8]) -> Result<()> {
     let mut memory = [0.0f32; synthesis::MEMORY];
     let mut output = [0.0f32; synthesis::OUTPUT];
     let mut places = [0usize; 8];
     let mut counts = [0u32; 8];
     let mut time = [0.0f64; 1];
     let number = tag::tag_open(stream, &mut memory, &mut places, &mut counts, &mut time, 0);
-    let opened = io::write_all(STDOUT_FILENO, b"open") & put_count(number);
-    let stated = put_state(&places, &counts, &time) & io::write_all(STDOUT_FILENO, b"\n");
-    if !(opened & stated & format(stream, &mut places, &mut counts, &mut time)) {
-        return false;
-    }
+    print!(rt; "open")?;
+    put_count(rt, number)?;
+    put_state(rt, &places, &counts, &time)?;
+    println!(rt)?;
+    format(rt, stream, &mut places, &mut counts, &mut time)?;
     let mut calls = stream.len() / 2 + 2;
     while 0 < calls {
         calls -= 1;
         match decode(
+            rt,
             stream,
             &mut memory,
             &mut output,
             &mut places,
             &mut counts,
             &mut time,
-        ) {
-            Then::Last => return true,
+        )? {
+            Then::Last => return Ok(()),
             Then::More => {}
-            Then::Failed => return false,
         }
     }
-    true
+    Ok(())
 }
 
-fn tell() {
+fn tell(rt: HostRuntime) {
     let mut stream = [0u8; 65537];
-    let got = input::read(libc::STDIN_FILENO, &mut stream);
+    let got = input::read(&mut rt.stdin(), &mut stream);
     if got.failed {
-        os::fail(b"standard input");
+        scribe::fail(rt, b"standard input", got.why);
         return;
     }
     let n = got.bytes;
-    if !play(&stream[..n]) {
-        os::fail(b"standard output");
+    if let Err(why) = play(rt, &stream[..n]) {
+        scribe::fail(rt, b"standard output", Some(why));
     }
 }
 
-fn main() {
-    if os::arg_count() == 1 {
-        tell();
+fn main(rt: HostRuntime) {
+    if input::argument_count(&rt) == 1 {
+        tell(rt);
     } else {
-        io::write_all(STDERR_FILENO, b"usage: ./run across < CLIP.mp2\n");
+        let _ = eprintln!(rt; "usage: ./run across < CLIP.mp2");
     }
 }

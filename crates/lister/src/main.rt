@@ -2,23 +2,23 @@
 // each line says what it means, with `strict` the clip is read by 02's E3. On standard error it ends with the clip in one line.
 #![tactic(auto)]
 
-use libc::{STDERR_FILENO, STDIN_FILENO};
 use listing::Behind;
 use readings::Reading;
 
-fn list(reading: Reading, behind: Behind) {
+fn list(rt: HostRuntime, reading: Reading, behind: Behind) {
     let mut stream = [0u8; 65537];
-    let got = input::read(STDIN_FILENO, &mut stream);
+    let got = input::read(&mut rt.stdin(), &mut stream);
     if got.failed {
-        os::fail(b"standard input");
+        scribe::fail(rt, b"standard input", got.why);
         return;
     }
     let n = got.bytes;
-    if scribe::has_failed(report::whole(&stream[..n], reading, behind)) {
-        os::fail(b"standard output");
+    let told = report::whole(rt, &stream[..n], reading, behind);
+    if scribe::has_failed(told) {
+        scribe::fail(rt, b"standard output", scribe::why(told));
         return;
     }
-    summary::tell(&stream[..n], reading);
+    summary::tell(rt, &stream[..n], reading);
 }
 
 fn same(word: &[u8], name: &[u8]) -> bool {
@@ -57,9 +57,9 @@ struct Asked {
 }
 
 // One argument more: a word that was there before changes nothing, and one that is too long is none.
-fn ask(asked: Asked, i: usize) -> Asked {
+fn ask(rt: HostRuntime, asked: Asked, i: usize) -> Asked {
     let mut bytes = [0u8; 8];
-    let n = os::arg(i, &mut bytes);
+    let n = input::argument(&rt, i, &mut bytes);
     let word = &bytes[..n];
     let choice = choice_of(word);
     let words = same(word, b"words");
@@ -70,7 +70,7 @@ fn ask(asked: Asked, i: usize) -> Asked {
     }
 }
 
-fn ask_all(count: usize) -> Asked {
+fn ask_all(rt: HostRuntime, count: usize) -> Asked {
     let mut asked = Asked {
         choices: 0,
         words: false,
@@ -78,23 +78,20 @@ fn ask_all(count: usize) -> Asked {
     };
     let mut i = 1;
     while i < count {
-        asked = ask(asked, i);
+        asked = ask(rt, asked, i);
         i += 1;
     }
     asked
 }
 
-fn main() {
-    let asked = ask_all(os::arg_count());
+fn main(rt: HostRuntime) {
+    let asked = ask_all(rt, input::argument_count(&rt));
     let reading = readings::reading_by(asked.choices);
     if !asked.known {
-        io::write_all(
-            STDERR_FILENO,
-            b"usage: ./run lister [words] [strict] < CLIP.mp2\n",
-        );
+        let _ = eprintln!(rt; "usage: ./run lister [words] [strict] < CLIP.mp2");
     } else if asked.words {
-        list(reading, Behind::Words);
+        list(rt, reading, Behind::Words);
     } else {
-        list(reading, Behind::Nothing);
+        list(rt, reading, Behind::Nothing);
     }
 }

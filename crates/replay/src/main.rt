@@ -2,58 +2,75 @@
 // and a checksum of its samples. What it must write are the unchanged Rust's answers: streams/README.md says how they were made.
 #![tactic(auto)]
 
-use libc::{STDERR_FILENO, STDOUT_FILENO};
 use listing::Behind;
+use std::fs::File;
+use std::io::{Error, ErrorKind, Result};
 
 // Writes a file's name and its listing, and answers whether standard output took them.
-fn list(name: &[u8], stream: &[u8]) -> bool {
-    let named = io::write_all(STDOUT_FILENO, name) && io::write_all(STDOUT_FILENO, b"\n");
-    if !named {
-        return false;
+fn list(rt: HostRuntime, name: &[u8], stream: &[u8]) -> Result<()> {
+    rt.write_all(name)?;
+    rt.write_all(b"\n")?;
+    let told = report::whole(rt, stream, readings::plain(), Behind::Marks);
+    match scribe::why(told) {
+        None => Ok(()),
+        Some(why) => Err(why),
     }
-    !scribe::has_failed(report::whole(stream, readings::plain(), Behind::Marks))
+}
+
+// A name that is no text is the name of no file here.
+fn open(rt: HostRuntime, name: &[u8]) -> Result<File> {
+    match std::str::from_utf8(name) {
+        Ok(path) => File::open(&rt, path),
+        Err(_) => Err(Error::from(ErrorKind::InvalidFilename)),
+    }
+}
+
+// Plays what is in a file, and answers whether standard output took it.
+fn replay_file(rt: HostRuntime, name: &[u8], mut file: File) -> bool {
+    let mut stream = [0u8; 65537];
+    let got = input::read(&mut file, &mut stream);
+    let bytes = got.bytes;
+    if got.failed {
+        scribe::fail(rt, name, got.why);
+        return true;
+    }
+    match list(rt, name, &stream[..bytes]) {
+        Ok(()) => true,
+        Err(why) => {
+            scribe::fail(rt, b"standard output", Some(why));
+            false
+        }
+    }
 }
 
 // A file that cannot be read is told, and the others are played.
-fn replay(i: usize) -> bool {
-    let mut name = io::buffer();
-    let n = os::arg(i, &mut name);
-    let fd = os::open_read(&name[..n]);
-    if fd < 0 {
-        os::fail(&name[..n]);
-        return true;
+fn replay(rt: HostRuntime, i: usize) -> bool {
+    let mut name = [0u8; 4096];
+    let n = input::argument(&rt, i, &mut name);
+    match open(rt, &name[..n]) {
+        Ok(file) => replay_file(rt, &name[..n], file),
+        Err(why) => {
+            scribe::fail(rt, &name[..n], Some(why));
+            true
+        }
     }
-    let mut stream = [0u8; 65537];
-    let got = input::read(fd, &mut stream);
-    let bytes = got.bytes;
-    if got.failed {
-        os::fail(&name[..n]);
-        libc::close(fd);
-        return true;
-    }
-    let taken = list(&name[..n], &stream[..bytes]);
-    if !taken {
-        os::fail(b"standard output");
-    }
-    libc::close(fd);
-    taken
 }
 
-fn replay_all(count: usize) {
+fn replay_all(rt: HostRuntime, count: usize) {
     let mut i = 1;
     while i < count {
-        if !replay(i) {
+        if !replay(rt, i) {
             break;
         }
         i += 1;
     }
 }
 
-fn main() {
-    let count = os::arg_count();
+fn main(rt: HostRuntime) {
+    let count = input::argument_count(&rt);
     if 1 < count {
-        replay_all(count);
+        replay_all(rt, count);
     } else {
-        io::write_all(STDERR_FILENO, b"usage: ./run replay FILE ..\n");
+        let _ = eprintln!(rt; "usage: ./run replay FILE ..");
     }
 }

@@ -44,14 +44,14 @@ fn put_opening(
 }
 
 // "calls until 1 or 7": on n bytes at most n/2 + 1 calls come before. What the opening carries goes to one line.
-fn list(stream: &[u8], reading: Reading, behind: Behind) -> Written
+fn list(rt: HostRuntime, stream: &[u8], reading: Reading, behind: Behind) -> Written
     requires { length stream.now ≤ 65536 }
     ensures { result.bytes ≡ length (listing_of reading behind stream.now) }
 {
     let mut memory = [0.0f32; synthesis::MEMORY];
     let mut output = [0.0f32; synthesis::OUTPUT];
     let opened = audio::new(stream, &mut memory, reading);
-    let mut done = put_opening(stream, reading, behind, scribe::nothing_yet(), opened);
+    let mut done = put_opening(stream, reading, behind, scribe::nothing_yet(rt), opened);
     let mut state = opened.state;
     let mut carried = listing::carried(opened);
     let mut calls = stream.len() / 2 + 2;
@@ -70,18 +70,18 @@ fn list(stream: &[u8], reading: Reading, behind: Behind) -> Written
 }
 
 // The listing of a stream: of more than 65,536 bytes the one line `long`.
-pub fn whole(stream: &[u8], reading: Reading, behind: Behind) -> Written
+pub fn whole(rt: HostRuntime, stream: &[u8], reading: Reading, behind: Behind) -> Written
     ensures { result.bytes ≡ length (listing_of reading behind stream.now) }
 {
     if stream.len() <= 65536 {
-        return list(stream, reading, behind);
+        return list(rt, stream, reading, behind);
     }
     let samples = [0.0f32; 0];
     text::put_line(
         stream,
         reading,
         behind,
-        scribe::nothing_yet(),
+        scribe::nothing_yet(rt),
         Line::Long,
         &samples,
     )

@@ -6,9 +6,14 @@ ghost use Rattle.std.specs.Prelude.{false, ◌≡◌, ◌+◌, ◌^◌, ◌<◌,
 ghost use Rattle.scribe.specs.Next.{Next};
 ghost use Rattle.scribe.specs.Whole.{descriptor_of, whole_of};
 
-use libc::{STDERR_FILENO, STDOUT_FILENO};
 use listing::Behind;
 use readings::Reading;
+use std::io::{Error, Result, Stderr, Stdout, Write};
+
+// The system's numbers of the two streams.
+const STDOUT_FILENO: i32 = 1;
+
+const STDERR_FILENO: i32 = 2;
 
 // A stream's listing, or its summary in one line, in a reading; or its WAVE file, which is of the plain one.
 #[derive(Clone, Copy)]
@@ -18,21 +23,27 @@ pub enum Whole {
     Wave,
 }
 
-// How much of a text is written. The fields are this crate's alone: a count comes from `nothing_yet` and `put`, and from nowhere else.
-// After a write that failed nothing more is written.
+// How much of a text is written, and where it goes. The fields are this crate's alone: a count comes from `nothing_yet` and `put`, and from
+// nowhere else. After a write that failed nothing more is written, and `why` is what the system said of it.
 #[derive(Clone, Copy)]
 pub struct Written {
+    output: Stdout,
+    error: Stderr,
     bytes: usize,
     failed: bool,
+    why: Option<Error>,
 }
 
-pub fn nothing_yet() -> Written
+pub fn nothing_yet(rt: HostRuntime) -> Written
     ensures bytes_value { result.bytes ≡ 0 }
     ensures failed_value { result.failed ≡ false }
 {
     Written {
+        output: rt.stdout(),
+        error: rt.stderr(),
         bytes: 0,
         failed: false,
+        why: None,
     }
 }
 
@@ -40,6 +51,10 @@ pub fn has_failed(done: Written) -> bool
     ensures { result ≡ done.failed }
 {
     done.failed
+}
+
+pub fn why(done: Written) -> Option<Error> {
+    done.why
 }
 
 // The summary is for whoever looks on: it goes to standard error, so that standard output has the listing or the file and nothing else.
@@ -61,11 +76,43 @@ pub fn put(stream: &[u8], what: Whole, done: Written, piece: &[u8]) -> Written
 {
     let bytes = done.bytes + piece.len();
     if done.failed {
-        return Written {
-            bytes,
-            failed: true,
-        };
+        return Written { bytes, ..done };
     }
-    let failed = !io::write_all(descriptor(what), piece);
-    Written { bytes, failed }
+    let why = hand_on(done, descriptor(what), piece).err();
+    Written {
+        bytes,
+        failed: why.is_some(),
+        why,
+        ..done
+    }
+}
+
+fn hand_on(done: Written, descriptor: i32, piece: &[u8]) -> Result<()> {
+    if descriptor == STDERR_FILENO {
+        return done.error.write_all(piece);
+    }
+    done.output.write_all(piece)
+}
+
+// Writes a line to standard error: what failed, as the caller names it, a colon and the system's words for why.
+pub fn fail(rt: HostRuntime, what: &[u8], why: Option<Error>) {
+    let error = rt.stderr();
+    let _ = error.write_all(what);
+    let _ = error.write_all(b": ");
+    if let Some(reason) = why {
+        let _ = tell_reason(error, reason);
+    }
+    let _ = error.write_all(b"\n");
+}
+
+// The system's words alone: std puts the error's number behind them.
+fn tell_reason(to: Stderr, reason: Error) -> Result<()> {
+    let mut room = [0u8; 128];
+    write!(&mut room[..], "{reason}")?;
+    let told = match std::str::from_utf8(&room) {
+        Ok(text) => text.trim_end_matches('\0'),
+        Err(_) => "",
+    };
+    let (words, _) = told.split_once(" (os error ").unwrap_or((told, ""));
+    to.write_all(words.as_bytes())
 }

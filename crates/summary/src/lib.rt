@@ -127,7 +127,7 @@ fn put_refusals(stream: &[u8], reading: Reading, done: Written, refused: [Kept; 
     told
 }
 
-fn put_lines(stream: &[u8], reading: Reading) -> Written
+fn put_lines(rt: HostRuntime, stream: &[u8], reading: Reading) -> Written
     requires { length stream.now ≤ 65536 }
     ensures { result.bytes ≡ length (summary_of reading stream.now) }
 {
@@ -135,23 +135,23 @@ fn put_lines(stream: &[u8], reading: Reading) -> Written
     let tally = tally::count(stream, reading);
     let frames = tally.frames;
     let refused = tally.refused;
-    let first = put_frames(stream, what, scribe::nothing_yet(), frames);
+    let first = put_frames(stream, what, scribe::nothing_yet(rt), frames);
     let second = put_junk(stream, what, first, tally.junk);
     let third = put_refusals(stream, reading, second, refused);
     let fourth = put_reason(stream, what, third, b"; ended with ", tally.end);
     scribe::put(stream, what, fourth, b"\n")
 }
 
-pub fn tell(stream: &[u8], reading: Reading) -> Written
+pub fn tell(rt: HostRuntime, stream: &[u8], reading: Reading) -> Written
     ensures { result.bytes ≡ length (summary_of reading stream.now) }
 {
     if stream.len() <= 65536 {
-        return put_lines(stream, reading);
+        return put_lines(rt, stream, reading);
     }
     scribe::put(
         stream,
         Whole::Summary(reading),
-        scribe::nothing_yet(),
+        scribe::nothing_yet(rt),
         b"too long: 65,536 bytes at most\n",
     )
 }

@@ -7,7 +7,6 @@ ghost use Rattle.clip.specs.Frames.{clip_of};
 ghost use Rattle.clip.specs.File.{frame_parts, joined, wave_of};
 ghost use Rattle.scribe.specs.Next.{Rest};
 
-use libc::{STDERR_FILENO, STDIN_FILENO};
 use scribe::{Whole, Written};
 
 // The second pass, from a fresh opening: a part for each frame, behind the header.
@@ -33,45 +32,46 @@ fn put_frames(stream: &[u8], done: Written, frames: usize) -> Written
 }
 
 // The lengths stand before the samples, so the first pass counts.
-fn put_file(stream: &[u8]) -> Written
+fn put_file(rt: HostRuntime, stream: &[u8]) -> Written
     requires { length stream.now ≤ 65536 }
     ensures { result.bytes ≡ length (wave_of stream.now) }
 {
     let counted = clip::count(stream);
     let header = riff::header(counted.frames as u32, counted.rate);
-    let told = scribe::put(stream, Whole::Wave, scribe::nothing_yet(), &header);
+    let told = scribe::put(stream, Whole::Wave, scribe::nothing_yet(rt), &header);
     put_frames(stream, told, counted.frames)
 }
 
 // Of more than 65,536 bytes it writes nothing.
-fn whole(stream: &[u8]) -> Written
+fn whole(rt: HostRuntime, stream: &[u8]) -> Written
     ensures { result.bytes ≡ length (wave_of stream.now) }
 {
     if stream.len() <= 65536 {
-        return put_file(stream);
+        return put_file(rt, stream);
     }
-    scribe::nothing_yet()
+    scribe::nothing_yet(rt)
 }
 
-fn play() {
+fn play(rt: HostRuntime) {
     let mut stream = [0u8; 65537];
-    let got = input::read(STDIN_FILENO, &mut stream);
+    let got = input::read(&mut rt.stdin(), &mut stream);
     if got.failed {
-        os::fail(b"standard input");
+        scribe::fail(rt, b"standard input", got.why);
         return;
     }
     let n = got.bytes;
-    if scribe::has_failed(whole(&stream[..n])) {
-        os::fail(b"standard output");
+    let told = whole(rt, &stream[..n]);
+    if scribe::has_failed(told) {
+        scribe::fail(rt, b"standard output", scribe::why(told));
         return;
     }
-    summary::tell(&stream[..n], readings::plain());
+    summary::tell(rt, &stream[..n], readings::plain());
 }
 
-fn main() {
-    if os::arg_count() == 1 {
-        play();
+fn main(rt: HostRuntime) {
+    if input::argument_count(&rt) == 1 {
+        play(rt);
     } else {
-        io::write_all(STDERR_FILENO, b"usage: ./run wav < CLIP.mp2 > SOUND.wav\n");
+        let _ = eprintln!(rt; "usage: ./run wav < CLIP.mp2 > SOUND.wav");
     }
 }
