@@ -13,9 +13,7 @@ use Rattle.clip.specs.declared.Reached.{Reached}
 use Rattle.clip.specs.Turns.{heard_by, heard_next, few_in_clip, begins, one_found, none_found, one_fewer}
 use Rattle.clip.proofs.count.Invariants.{heard_from}
 use Rattle.clip.proofs.count.Goals as goal
-
-abbrev heard_from : List ℕ → Reached → List Float → List Float → List Heard
-heard_from s at memory output = heard_by s (record { reached = at; memory = memory; output = output })
+use Rattle.clip.proofs.count.Goals.{then-at, else-at}
 
 pub loop-at-init : goal.loop-at-init
 unfolding of_bits
@@ -25,7 +23,10 @@ loop-at-init c =
     let is = begins _ _ _ o.value o.memory_after ∙ heard_next _ _ _ _ _ _ _ _ e.value e.memory_after e.output_after in (
       search rules,
       search rules,
-      ⊎_elim (λ w. w.1 ∙ sym (ap rate_in (is ∙ one_found _ _ w.0.taken))) (λ w. w.1 ∙ sym (ap rate_in (is ∙ none_found _ _ w.0.left))) c.if-at.branch,
+      elim c.if-at.branch [
+        then-at w ↦ w.rate-is ∙ sym (ap rate_in (is ∙ one_found _ _ w.if-at.true))
+        | else-at w ↦ w.rate-is ∙ sym (ap rate_in (is ∙ none_found _ _ w.if-at.false))
+      ],
       zero-add _ ∙ ap length (sym is),
     )
 
