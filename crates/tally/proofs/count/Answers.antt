@@ -11,24 +11,17 @@ use Rattle.listing.specs.LinesLaws.{opening_carries_few}
 use Rattle.tally.proofs.Turns.{Counted, begins, none_left, room_left, after_last, after_other}
 use Rattle.tally.proofs.count.Goals as goal
 
--- so it is in the one that was asked for
-so_far : (c : goal.At-loop-calls) → let l = c.loop-calls in let a = c.args in
-    Counted a.reading a.stream.now l.tally l.calls (lines_in (shown_from l.calls a.stream.now l.memory l.output l.carried l.state))
-unfolding of_bits
-so_far c =
-    let e = c.new-opened.ensures in
-    c.loop-calls.invariant.3 c.args.reading
-    (begins _ _ _ _ _ c.requires e.value e.memory_after c.opening-tally.ensures _ c.carried-carried.ensures)
-
 pub loop-calls-init : goal.loop-calls-init
 loop-calls-init c =
     (search rules, search rules, opening_carries_few _ _ _ _ _ c.new-opened.ensures.value c.carried-carried.ensures, λ r begun. begun)
 
 pub add-tally-requires : goal.add-tally-requires
+unfolding of_bits
 add-tally-requires c =
     let short = c.requires in
     let e = c.next_line-listed.ensures in
-    let whole = room_left _ _ _ _ _ _ _ _ short (so_far head) c.loop-calls.invariant.2 _ _ _ (omega arith) e.value e.memory_after e.output_after in
+    let whole = room_left _ _ _ _ _ _ _ _ short (c.loop-calls.invariant.3 c.args.reading
+        (begins _ _ _ _ _ c.requires c.new-opened.ensures.value c.new-opened.ensures.memory_after c.opening-tally.ensures _ c.carried-carried.ensures)) c.loop-calls.invariant.2 _ _ _ (omega arith) e.value e.memory_after e.output_after in
     record { count_bound = whole.0; line_bound = whole.1 }
 
 pub loop-calls-preserved : goal.loop-calls-preserved
@@ -43,12 +36,16 @@ loop-calls-preserved c =
     )
 
 pub returns-after-loop-calls : goal.returns-after-loop-calls
+unfolding of_bits
 returns-after-loop-calls c =
-    none_left _ _ _ _ _ _ _ _ c.requires (so_far head) (omega arith)
+    none_left _ _ _ _ _ _ _ _ c.requires (c.loop-calls.invariant.3 c.args.reading
+        (begins _ _ _ _ _ c.requires c.new-opened.ensures.value c.new-opened.ensures.memory_after c.opening-tally.ensures _ c.carried-carried.ensures)) (omega arith)
 
 pub returns-then-is_last : goal.returns-then-is_last
+unfolding of_bits
 returns-then-is_last c =
     let short = c.requires in
     let e = c.next_line-listed.ensures in
-    after_last _ _ _ _ _ _ _ _ short (so_far head) c.loop-calls.invariant.2 _ _ _ (omega arith) e.value e.memory_after e.output_after _ _ c.add-tally.ensures
+    after_last _ _ _ _ _ _ _ _ short (c.loop-calls.invariant.3 c.args.reading
+        (begins _ _ _ _ _ c.requires c.new-opened.ensures.value c.new-opened.ensures.memory_after c.opening-tally.ensures _ c.carried-carried.ensures)) c.loop-calls.invariant.2 _ _ _ (omega arith) e.value e.memory_after e.output_after _ _ c.add-tally.ensures
     c.is_last.ensures c.if-is_last.true

@@ -19,7 +19,7 @@ pub keep-requires : goal.keep-requires
 keep-requires c = c.requires _
 
 pub returns-then-number-lt16 : goal.returns-then-number-lt16
-returns-then-number-lt16 c = let a = c.args in inside a.t1 a.number a.value _ (omega arith) c.keep.ensures
+returns-then-number-lt16 c = let a = c.args in inside a.refused a.number a.value _ (omega arith) c.keep.ensures
 
 pub returns-else-number-lt16 : goal.returns-else-number-lt16
-returns-else-number-lt16 c = let a = c.args in outside a.t1 a.number a.value (omega arith)
+returns-else-number-lt16 c = let a = c.args in outside a.refused a.number a.value (omega arith)

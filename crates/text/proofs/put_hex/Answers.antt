@@ -1,0 +1,20 @@
+use Rattle.std.proofs.Common.{ℕ, ◌+◌, List, ◌++◌, length, sym, ap, ◌∙◌, subst, arith, rules}
+use Rattle.listing.specs.Text.{hexed}
+use Rattle.scribe.specs.Next.{Next}
+use Rattle.text.proofs.Digits.{hex_spelled}
+use Rattle.text.proofs.put_hex.Goals as goal
+
+-- what was made of the number is its digits
+pub put_both-requires : goal.put_both-requires
+unfolding hexed
+put_both-requires c =
+    let made = c.hex-k in
+    let is = hex_spelled c.args.n made.result _ (omega (arith, ⟪entry.well-formed⟫)) made.ensures.1.0 made.ensures.1.1 in record { stream_len_bound = c.requires.stream_len_bound; next = subst (Next _ _) (ap (λ (digits : List ℕ). c.args.word.now ++ digits) (sym is)) c.requires.next }
+
+pub returns : goal.returns
+unfolding hexed
+returns c =
+    let made = c.hex-k in
+    let a = c.args in
+    let is = hex_spelled a.n made.result _ (omega (arith, ⟪entry.well-formed⟫)) made.ensures.1.0 made.ensures.1.1 in
+    c.put_both.ensures ∙ ap (λ (digits : List ℕ). a.done.bytes + length (a.word.now ++ digits)) is

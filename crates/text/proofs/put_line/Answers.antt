@@ -1,0 +1,32 @@
+use Rattle.std.proofs.Common.{◌++◌, arith, length-append, rules}
+use Rattle.listing.specs.Text.{newline, bare_text, behind_of, listing_of}
+use Rattle.scribe.specs.Next.{Next, first_next, second_next}
+use Rattle.text.proofs.put_line.Goals as goal
+
+behind-bare : (c : goal.After-put_bare-bare) → let a = c.args in
+    Next (listing_of a.reading a.behind a.stream.now) c.put_bare-bare.result.bytes (behind_of a.behind a.line a.samples.now ++ newline)
+behind-bare c = second_next (bare_text c.args.line) _ c.put_bare-bare.ensures c.requires.next
+
+pub put_bare-bare-requires : goal.put_bare-bare-requires
+put_bare-bare-requires c = record { stream_len_bound = c.requires.stream_len_bound; next = first_next _ _ c.requires.next }
+
+pub put_behind-told-requires : goal.put_behind-told-requires
+put_behind-told-requires c = record { stream_len_bound = c.requires.stream_len_bound; next = first_next _ _ (behind-bare c) }
+
+pub put-requires : goal.put-requires
+put-requires c =
+    let a = c.args in
+    let last = second_next (behind_of a.behind a.line a.samples.now) newline c.put_behind-told.ensures (behind-bare c.before.before.before) in record { piece_bound = omega (arith, c.requires.stream_len_bound, last.inside); next = last }
+
+pub returns : goal.returns
+returns c =
+    let a = c.args in
+    let second = behind_of a.behind a.line a.samples.now in
+    omega (
+      arith,
+      c.put.ensures,
+      c.put_behind-told.ensures,
+      c.put_bare-bare.ensures,
+      length-append (bare_text a.line) (second ++ newline),
+      length-append second newline,
+    )

@@ -1,0 +1,31 @@
+use Rattle.std.proofs.Common.{ap, subst, rules}
+use Rattle.listing.specs.Words.{line_words}
+use Rattle.scribe.specs.Next.{Next}
+use Rattle.text.proofs.Pieces.{piece_next}
+use Rattle.text.proofs.put_meaning.Goals as goal
+
+pub put_mode-requires : goal.put_mode-requires
+put_mode-requires c = record { stream_len_bound = c.requires.stream_len_bound; next = subst (Next _ _) (ap line_words c.in-Frame.is) c.requires.next }
+
+pub put_reason-requires : goal.put_reason-requires
+put_reason-requires c = record { stream_len_bound = c.requires.stream_len_bound; next = subst (Next _ _) (ap line_words c.in-Refused.is) c.requires.next }
+
+pub put_reason-requires-in-End : goal.put_reason-requires-in-End
+put_reason-requires-in-End c = record { stream_len_bound = c.requires.stream_len_bound; next = subst (Next _ _) (ap line_words c.in-End.is) c.requires.next }
+
+pub put-requires : goal.put-requires
+put-requires c =
+    let whole = piece_next (ap line_words c.in-Long.is) c.requires.stream_len_bound c.requires.next in
+    record { piece_bound = whole.0; next = whole.1 }
+
+pub returns-in-Frame : goal.returns-in-Frame
+returns-in-Frame c = rw c.in-Frame.is c.put_mode.ensures
+
+pub returns-in-Refused : goal.returns-in-Refused
+returns-in-Refused c = rw c.in-Refused.is c.put_reason.ensures
+
+pub returns-in-End : goal.returns-in-End
+returns-in-End c = rw c.in-End.is c.put_reason-in-End.ensures
+
+pub returns-in-Long : goal.returns-in-Long
+returns-in-Long c = rw c.in-Long.is c.put.ensures
