@@ -9,12 +9,12 @@ pub put_both-requires : goal.put_both-requires
 unfolding hexed
 put_both-requires c =
     let made = c.hex-k in
-    let is = hex_spelled c.args.n made.result _ (omega (arith, ⟪entry.well-formed⟫)) made.ensures.1.0 made.ensures.1.1 in record { stream_len_bound = c.requires.stream_len_bound; next = subst (Next _ _) (ap (λ (digits : List ℕ). c.args.word.now ++ digits) (sym is)) c.requires.next }
+    let is = hex_spelled c.args.n made.result _ (omega (arith, c.well_formed)) made.ensures.len made.ensures.digits in record { stream_len_bound = c.requires.stream_len_bound; next = subst (Next _ _) (ap (λ (digits : List ℕ). c.args.word.now ++ digits) (sym is)) c.requires.next }
 
 pub returns : goal.returns
 unfolding hexed
 returns c =
     let made = c.hex-k in
     let a = c.args in
-    let is = hex_spelled a.n made.result _ (omega (arith, ⟪entry.well-formed⟫)) made.ensures.1.0 made.ensures.1.1 in
+    let is = hex_spelled a.n made.result _ (omega (arith, c.well_formed)) made.ensures.len made.ensures.digits in
     c.put_both.ensures ∙ ap (λ (digits : List ℕ). a.done.bytes + length (a.word.now ++ digits)) is

@@ -12,20 +12,17 @@ timed time = hexed time_word (time_bits time)
 abbrev summed : List Float → List ℕ
 summed samples = hexed sum_word (sum_of samples (length samples))
 
-abbrev time-of : tie.After-known-told → Float
-time-of c = c.before.line.given.0.1.1.1.1.1.1.0
-
-marks-next : (c : goal.In-Frame) → let a = c.args in
-    Next (whole_of a.what a.stream.now) a.done.bytes (timed (time-of c) ++ summed a.samples.now)
-marks-next c =
-    subst (Next _ _) (ap (λ l. marks_of l c.args.samples.now) c.in-Frame.is) c.requires.next
-
 pub put_hex-timed-requires : goal.put_hex-timed-requires
-put_hex-timed-requires c = record { stream_len_bound = c.requires.stream_len_bound; next = subst (Next _ _) (ap (hexed time_word) (sym c.time_bits.ensures)) (first_next _ _ (marks-next matched)) }
+put_hex-timed-requires c =
+    let marks_next : Next (whole_of c.args.what c.args.stream.now) c.args.done.bytes (timed c.in-Frame.time ++ summed c.args.samples.now) =
+        subst (Next _ _) (ap (λ l. marks_of l c.args.samples.now) c.in-Frame.is) c.requires.next in
+    record { stream_len_bound = c.requires.stream_len_bound; next = subst (Next _ _) (ap (hexed time_word) (sym c.time_bits.ensures)) (first_next _ _ marks_next) }
 
 pub put_hex-requires : goal.put_hex-requires
 put_hex-requires c =
-    let put = c.put_hex-timed.ensures ∙ ap (λ n. c.args.done.bytes + length (hexed time_word n)) c.time_bits.ensures in record { stream_len_bound = c.requires.stream_len_bound; next = subst (Next _ _) (ap (hexed sum_word) (sym c.sum.ensures)) (second_next (timed (time-of matched)) _ put (marks-next matched)) }
+    let marks_next : Next (whole_of c.args.what c.args.stream.now) c.args.done.bytes (timed c.in-Frame.time ++ summed c.args.samples.now) =
+        subst (Next _ _) (ap (λ l. marks_of l c.args.samples.now) c.in-Frame.is) c.requires.next in
+    let put = c.put_hex-timed.ensures ∙ ap (λ n. c.args.done.bytes + length (hexed time_word n)) c.time_bits.ensures in record { stream_len_bound = c.requires.stream_len_bound; next = subst (Next _ _) (ap (hexed sum_word) (sym c.sum.ensures)) (second_next (timed c.in-Frame.time) _ put marks_next) }
 
 pub returns-in-Frame : goal.returns-in-Frame
 returns-in-Frame c =
@@ -36,7 +33,7 @@ returns-in-Frame c =
       ap (λ n. length (hexed sum_word n)) c.sum.ensures,
       c.put_hex-timed.ensures,
       ap (λ n. length (hexed time_word n)) c.time_bits.ensures,
-      length-append (timed (time-of matched)) (summed samples),
+      length-append (timed c.in-Frame.time) (summed samples),
     ))
 
 pub returns-in-Refused : goal.returns-in-Refused
