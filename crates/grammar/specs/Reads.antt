@@ -3,7 +3,6 @@
 use Rattle.std.specs.Prelude.{ℕ, ◌+◌, List}
 use Rattle.buffer.specs.Calls.{field_of}
 use Rattle.buffer.specs.declared.Reader.{Reader}
-use Rattle.buffer.specs.declared.Field.{Field}
 
 pub data Reads (A : Type 0) : Type 0 where
   done : A → Reads A

@@ -2,12 +2,11 @@
 -- `exact` (bits used are the sum of the widths whenever that many remain) and `alike` (agreeing bits read the same).
 -- Assumes nothing.
 use Rattle.std.specs.Prelude.{ℕ, zero, suc, ◌+◌, ◌-◌, ◌*◌, ◌≤◌, ◌<◌, max, ◌≡◌, refl, Bool, true, false, List, length, ltb}
-use Rattle.std.proofs.Common.{ap, sym, ◌∙◌, arith, add_assoc, lt-ltb, le-ltb, ltb-true, ltb-false}
+use Rattle.std.proofs.Common.{ap, ◌∙◌, arith, add_assoc, lt-ltb, le-ltb, ltb-true, ltb-false}
 use Rattle.buffer.specs.Laws.{Enough, field_whole, field_moves}
 use Rattle.buffer.specs.Bits.{bit_at, bits_value}
 use Rattle.buffer.specs.Calls.{field_of, read_of}
 use Rattle.buffer.specs.declared.Reader.{Reader}
-use Rattle.buffer.specs.declared.Field.{Field}
 use Rattle.grammar.specs.Reads.{Reads, done, ask, ◌>>=◌, run, called}
 
 -- no field is wider than 32 bits

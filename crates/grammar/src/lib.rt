@@ -1,3 +1,2 @@
 // A format as a program of reads: definitions and laws, nothing that runs.
 #![tactic(auto)]
-

@@ -1,4 +1,5 @@
 // The boundary that firmware links: the decoder's three calls, and a frame's 16-bit samples; numbers and slices and nothing else.
+// The crate tag_c gives them to C under the same names.
 // specs/Boundary says what stands where in `places`, `counts` and `time`.
 #![tactic(auto)]
 
@@ -77,8 +78,7 @@ fn heading_number(h: Heading) -> u32
 }
 
 // Opens a decoder on the stream: the memory cleared, the first header tried. The number is returned.
-#[unsafe(no_mangle)]
-pub extern "C" fn tag_open(
+pub fn tag_open(
     stream: &[u8],
     memory: &mut [f32],
     places: &mut [usize; 8],
@@ -128,8 +128,7 @@ fn of_reply(r: Reply) -> Named
 }
 
 // The stream's format, sought if none is known: the number is returned, the format is left in `rate`, `kbps` and `mode`.
-#[unsafe(no_mangle)]
-pub extern "C" fn tag_format(
+pub fn tag_format(
     stream: &[u8],
     places: &mut [usize; 8],
     counts: &mut [u32; 8],
@@ -181,8 +180,7 @@ fn of_answer(a: Answer) -> Played
 }
 
 // The next frame: its number is returned, its start and its bits are left in `start` and `bits`.
-#[unsafe(no_mangle)]
-pub extern "C" fn tag_decode(
+pub fn tag_decode(
     stream: &[u8],
     memory: &mut [f32],
     output: &mut [f32],
@@ -209,8 +207,7 @@ pub extern "C" fn tag_decode(
 }
 
 // A frame's samples as a converter takes them, 16 bits each, rounded as in a WAV file.
-#[unsafe(no_mangle)]
-pub extern "C" fn tag_samples16(output: &[f32], samples: &mut [u16]) -> u32
+pub fn tag_samples16(output: &[f32], samples: &mut [u16]) -> u32
     ensures { TagSamples16 output.now samples.old result samples.new }
 {
     if output.len() < synthesis::OUTPUT {

@@ -8,7 +8,6 @@ use mir.Syntax.{w32}
 use mir.Val.{to_z, of_z}
 use mir.ValLaws.{to_z-of_z}
 use Rattle.codes.specs.Frame.{copied}
-use borrow.Author.Rules.{rules}
 use Rattle.codes.proofs.copy_band.Goals as goal
 
 -- `codes::copy_band` meets its contract.

@@ -4,7 +4,6 @@ use native.Mathlib.Nat.{one-mul}
 use native.Mathlib.Omega.{arith}
 use lib.Dec.{lit<}
 use lib.Pow.{pow_pos, shl_exact}
-use borrow.Author.Rules.{rules}
 use Rattle.codes.proofs.cut_in_three.Goals as goal
 
 -- `codes::cut_in_three` meets its contract: a shift by at most 10 loses nothing.

@@ -5,7 +5,6 @@ use Rattle.grammar.specs.Run.{field_then, run_done}
 use Rattle.samples.specs.Sample.{digits_of}
 use Rattle.codes.specs.Frame.{codes_of}
 use Rattle.codes.proofs.Quantisers.{grouped_levels}
-use borrow.Author.Rules.{rules}
 use Rattle.codes.proofs.read_codes.Goals as goal
 
 pub digits-codes-requires : goal.digits-codes-requires

@@ -1,11 +1,6 @@
-use borrow.Author.Rules.{rules}
 use Prim.Native.Nat.{◌≤◌, ◌-◌}
-use mathlib.Core.Path.{◌≡◌, refl}
-use native.Mathlib.Numerals.{add-one}
-use native.Mathlib.Omega.{arith}
+use mathlib.Core.Path.{◌≡◌}
 use Rattle.grammar.specs.Reads.{run, ran}
-use Rattle.grammar.specs.Run.{and_then}
-use Rattle.side.specs.Bands.{bands}
 use Rattle.codes.specs.Frame.{samples_from}
 use Rattle.side.specs.Below.{side_with}
 use Rattle.codes.proofs.read_granule.Given as goal

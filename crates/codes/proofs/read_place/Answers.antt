@@ -3,7 +3,6 @@ use native.Mathlib.Omega.{arith}
 use borrow.Author.Tests.{eq-eqb, ne_eqb}
 use Rattle.grammar.specs.Run.{run_done}
 use Rattle.codes.specs.Frame.{place_of}
-use borrow.Author.Rules.{rules}
 use Rattle.codes.proofs.read_place.Goals as goal
 
 pub overflow_cast-q : goal.overflow_cast-q

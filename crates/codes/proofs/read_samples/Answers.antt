@@ -6,11 +6,10 @@ use Rattle.samples.specs.declared.Three.{Three}
 use Rattle.ground.specs.Magnitude.{read_back}
 use Rattle.grammar.specs.Values.{learnt}
 use Rattle.grammar.specs.Run.{run_done, and_then}
-use Rattle.samples.specs.Bounds.{most_of, Range, quantiser_range}
+use Rattle.samples.specs.Bounds.{most_of, quantiser_range}
 use Rattle.codes.specs.Values.{CodesUpTo, codes_small}
 use Rattle.codes.specs.Frame.{codes_of, three_samples_of}
 use Rattle.codes.proofs.Stored.{asks, stored}
-use borrow.Author.Rules.{rules}
 use Rattle.codes.proofs.read_samples.Goals as goal
 
 -- what the codes just read are at most

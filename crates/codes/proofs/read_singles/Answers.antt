@@ -1,7 +1,6 @@
 use mathlib.Core.Path.{sym}
 use Rattle.grammar.specs.Run.{field_then, run_done}
 use Rattle.codes.specs.Frame.{singles_of}
-use borrow.Author.Rules.{rules}
 use Rattle.codes.proofs.read_singles.Goals as goal
 
 pub returns : goal.returns

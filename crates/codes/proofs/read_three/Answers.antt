@@ -1,7 +1,6 @@
 use mathlib.Core.Path.{ap, ◌∙◌}
 use Rattle.grammar.specs.Reads.{ran}
 use Rattle.codes.specs.Three.{at_once}
-use borrow.Author.Rules.{rules}
 use Rattle.codes.proofs.read_three.Goals as goal
 
 pub returns-then-next-reader : goal.returns-then-next-reader

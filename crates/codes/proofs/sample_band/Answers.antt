@@ -2,7 +2,6 @@ use borrow.Author.Tests.{lt-ltb, le-ltb}
 use Rattle.grammar.specs.Run.{run_done, and_then}
 use Rattle.side.specs.Bands.{pair_of}
 use Rattle.codes.specs.Frame.{sample_band_of}
-use borrow.Author.Rules.{rules}
 use mathlib.Core.Path.{ap}
 use Rattle.grammar.specs.Reads.{ran}
 use Rattle.codes.proofs.sample_band.Goals as goal
