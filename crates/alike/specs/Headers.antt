@@ -3,7 +3,7 @@
 -- mode, and else refuses it with 13. And a header that the port accepts, all of its bits being there, is one of the standard's. Either way
 -- it stands at the byte that the attempt tells, so up to there the bytes were passed over (02, E2).
 -- Demand 2: "Header .. proved against a definition written from ISO/IEC 11172-3 Layer II". Assumes nothing.
-use Rattle.std.specs.Prelude.{ℕ, ◌+◌, ◌-◌, ◌*◌, ◌/◌, ◌%◌, ◌≤◌, ◌<◌, ◌≡◌, refl, Bool, true, false, List, [], ◌∷◌, T, leb, length, get_or}
+use Rattle.std.specs.Prelude.{ℕ, ◌+◌, ◌-◌, ◌*◌, ◌/◌, ◌%◌, ◌≤◌, ◌<◌, ◌≡◌, refl, true, false, List, [], ◌∷◌, T, leb, length, get_or}
 use Rattle.std.proofs.Common.{sym, ap, subst, ◌∙◌, arith, leb→le, eq-eqb}
 use Rattle.std.proofs.Math.Decide.{ℕ_discrete}
 use Rattle.ground.specs.First.{first_within, first_before, first_is}
@@ -21,12 +21,12 @@ use Rattle.buffer.specs.declared.Field.{Field}
 use Rattle.readings.specs.Readings.{strict}
 use Rattle.header.specs.Header.{refusal, header_of}
 use Rattle.header.specs.Accepted.{SameFormat}
-use Rattle.header.specs.Attempts.{eleven_bits, stop, Synced, in_place, searched, layer, bitrate, samplerate, mode, flags, checked, after_check, format_by, data_size as size_by, BitrateGiven, pair_barred, Attempts, one, two, three, four, five, thirteen, six, zero as accepted, attempt_table}
+use Rattle.header.specs.Attempts.{eleven_bits, stop, Synced, in_place, searched, samplerate, flags, checked, after_check, format_by, data_size as size_by, BitrateGiven, pair_barred, Attempts, one, two, three, four, five, thirteen, six, zero as accepted, attempt_table}
 use Rattle.header.specs.Passed.{Met, sync_is_ff}
 use Rattle.header.specs.declared.Attempt.{Attempt}
 use Rattle.header.specs.declared.Format.{Format}
 use Rattle.header.specs.declared.Header.TheVariants.{Accepted}
-use Rattle.standard.specs.Header.{HeaderFields, syncword, id, bitrate_index, sampling_frequency, mode_bits, permitted, data_size, data_bit}
+use Rattle.standard.specs.Header.{HeaderFields, bitrate_index, sampling_frequency, mode_bits, permitted, data_size, data_bit}
 use Rattle.alike.specs.Fields.{Says, after_sync, bits_at, field, version_is, layer_is, bitrate_is, samplerate_is, mode_is, says, next_is, eleven_ones, version_3, twelve_ones}
 use Rattle.alike.specs.Pairs.{Permits, permitted_is_taken, taken_is_permitted, not_permitted_is_refused}
 

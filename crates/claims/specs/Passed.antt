@@ -2,7 +2,7 @@
 -- pair starts there. An FF stands at that byte; with 2 the stream ends there; with 1 nothing was passed over. An accepted header is the
 -- standard's, at that byte.
 -- Assumes nothing.
-use Rattle.std.specs.Prelude.{ℕ, ◌+◌, ◌-◌, ◌≤◌, ◌≡◌, true, List, Float, length}
+use Rattle.std.specs.Prelude.{ℕ, ◌+◌, ◌≤◌, ◌≡◌, true, List, Float, length}
 use Rattle.std.proofs.Math.Path.{refl}
 use Rattle.std.proofs.Common.{sym, ap, subst, inl, inr, arith}
 use Rattle.ground.specs.Rows.{never}

@@ -1,3 +1,2 @@
 // What the person was promised, as theorems: specs/ alone.
 #![tactic(auto)]
-

@@ -1,3 +1,2 @@
 // Each number of the calls occurs, and how: specs/ alone.
 #![tactic(auto)]
-

@@ -1,6 +1,6 @@
 // The reader's eight calls and the attempt at a header as numbers.
 ghost use Rattle.std.specs.Prelude.{◌≡◌};
-ghost use Rattle.probe.specs.Answers.{ofHolds, ofRead, ofMoved, ofSkipped, ofTold, ofSync, call_of, answerInto};
+ghost use Rattle.probe.specs.Answers.{of_holds, of_read, of_moved, of_skipped, of_told, of_sync, call_of, answer_into};
 ghost use Rattle.probe.specs.Headers.{format_from, of_attempt, header_call_of, stored};
 
 use buffer::{BitIndex, Holds, Moved, Read, Reader, Skipped, Sync, Told};
@@ -17,7 +17,7 @@ pub struct Answer {
 }
 
 fn of_holds(at: usize, h: Holds) -> Answer
-    ensures { result ≡ ofHolds at h }
+    ensures { result ≡ of_holds at h }
 {
     match h {
         Holds::Yes => Answer {
@@ -45,7 +45,7 @@ fn of_holds(at: usize, h: Holds) -> Answer
 }
 
 fn of_read(at: usize, x: Read) -> Answer
-    ensures { result ≡ ofRead at x }
+    ensures { result ≡ of_read at x }
 {
     match x {
         Read::Value(value, next) => Answer {
@@ -73,7 +73,7 @@ fn of_read(at: usize, x: Read) -> Answer
 }
 
 fn of_moved(at: usize, m: Moved) -> Answer
-    ensures { result ≡ ofMoved at m }
+    ensures { result ≡ of_moved at m }
 {
     match m {
         Moved::To(next) => Answer {
@@ -94,7 +94,7 @@ fn of_moved(at: usize, m: Moved) -> Answer
 }
 
 fn of_skipped(at: usize, k: Skipped) -> Answer
-    ensures { result ≡ ofSkipped at k }
+    ensures { result ≡ of_skipped at k }
 {
     match k {
         Skipped::Bytes(value, next) => Answer {
@@ -115,7 +115,7 @@ fn of_skipped(at: usize, k: Skipped) -> Answer
 }
 
 fn of_told(at: usize, t: Told) -> Answer
-    ensures { result ≡ ofTold at t }
+    ensures { result ≡ of_told at t }
 {
     match t {
         Told::At(byte) => Answer {
@@ -136,7 +136,7 @@ fn of_told(at: usize, t: Told) -> Answer
 }
 
 fn of_sync(at: usize, f: Sync) -> Answer
-    ensures { result ≡ ofSync at f }
+    ensures { result ≡ of_sync at f }
 {
     match f {
         Sync::Found {
@@ -198,7 +198,7 @@ pub extern "C" fn reading_reader(
 ) -> u32
     ensures number { result ≡ (call_of call stream.now at argument).number }
     ensures given { let a = call_of call stream.now at argument in
-        answer.new ≡ answerInto a answer.old }
+        answer.new ≡ answer_into a answer.old }
 {
     let a = reader_call(call, stream, at, argument);
     answer[0] = a.value;

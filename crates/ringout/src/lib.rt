@@ -1,3 +1,2 @@
 // Demand 3 as theorems: specs/ alone.
 #![tactic(auto)]
-

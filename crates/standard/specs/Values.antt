@@ -1,7 +1,7 @@
 -- What a sample's code is worth, in exact fractions: the requantisation of ISO/IEC 11172-3, 2.4.3.3.4, with C and D of Table B.4, and the
 -- scale factors of Table B.1, which are roots and are said without them. For a code c of L steps the requantised value is (2 c - (L - 1)) / L
 -- (`requantised-is`). Nothing here is the port's. Assumes nothing.
-use Rattle.std.specs.Prelude.{ℕ, zero, suc, ◌+◌, ◌-◌, ◌*◌, ◌^◌, ◌≤◌, ◌<◌, ◌≡◌, cond, List, [], ◌∷◌, T, eqb, ltb, ℤ, pos, ◌+ℤ◌, ◌-ℤ◌, ◌*ℤ◌, get_or}
+use Rattle.std.specs.Prelude.{ℕ, zero, suc, ◌+◌, ◌-◌, ◌*◌, ◌^◌, ◌≤◌, ◌<◌, ◌≡◌, cond, List, [], ◌∷◌, T, eqb, ltb, pos, ◌+ℤ◌, ◌-ℤ◌, ◌*ℤ◌, get_or}
 use Rattle.std.proofs.Common.{sym, ap, ◌∙◌, mul-pos, arith, lt-ltb, le-ltb, ltb-true, ltb-false, eqb→eq, pow_pos}
 use Rattle.std.proofs.Math.Nat.{pow-succ'}
 use Rattle.std.proofs.Math.IntN.{sub_ℕ, *ℤ_comm}

@@ -1,5 +1,4 @@
 use Prim.Native.Nat.{◌≤◌}
-use borrow.Author.Rules.{rules}
 use Rattle.across.proofs.play.Given as goal
 
 abbrev pub invariant-loop-calls : goal.invariant-loop-calls

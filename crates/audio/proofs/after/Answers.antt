@@ -1,5 +1,4 @@
 use Rattle.audio.specs.Calls.{after_of}
-use borrow.Author.Rules.{rules}
 use Rattle.audio.proofs.after.Goals as goal
 
 pub returns : goal.returns

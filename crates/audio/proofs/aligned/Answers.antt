@@ -1,6 +1,5 @@
 use mathlib.Core.Path.{ap, sym, ◌∙◌}
 use Rattle.audio.specs.Calls.{aligned_of, by_moved}
-use borrow.Author.Rules.{rules}
 use Rattle.audio.proofs.aligned.Goals as goal
 
 pub returns-in-To : goal.returns-in-To

@@ -1,14 +1,10 @@
-use borrow.Author.Rules.{rules}
 use Prim.Native.Nat.{ℕ, ◌≤◌, ◌<◌, ◌-◌}
-use mathlib.Core.Path.{◌≡◌, sym, ◌∙◌}
+use mathlib.Core.Path.{◌≡◌}
 use mathlib.Core.Bool.{false}
-use native.Mathlib.Omega.{arith}
 use lib.IntN.{pos}
-use lib.Ieee.{fin, nan, of_bits}
-use lib.ListN.{length, get_or, length-set}
-use Rattle.ground.specs.Table.{is_table, table_more}
+use lib.Ieee.{fin, nan}
+use lib.ListN.{length, get_or}
 use Rattle.synthesis.specs.Slots.{memory_length}
-use Rattle.audio.specs.Calls.{blank}
 use Rattle.audio.proofs.clear.Given as goal
 
 abbrev pub invariant-loop-i : goal.invariant-loop-i

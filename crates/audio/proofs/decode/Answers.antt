@@ -1,5 +1,4 @@
 use Rattle.audio.specs.CallsLaws.{goes, decodes, refuses}
-use borrow.Author.Rules.{rules}
 use Rattle.audio.proofs.decode.Goals as goal
 
 pub framed-requires : goal.framed-requires

@@ -1,4 +1,3 @@
-use borrow.Author.Rules.{rules}
 use Rattle.audio.specs.CallsLaws.{told_fits, tells}
 use Rattle.audio.proofs.format.Goals as goal
 

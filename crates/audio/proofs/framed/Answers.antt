@@ -1,6 +1,5 @@
 use Rattle.audio.specs.Calls.{framed_memory, framed_output}
 use Rattle.audio.specs.CallsLaws.{ended, frames}
-use borrow.Author.Rules.{rules}
 use Rattle.audio.proofs.framed.Goals as goal
 
 pub decode_frame-played-requires : goal.decode_frame-played-requires

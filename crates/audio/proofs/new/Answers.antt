@@ -1,5 +1,4 @@
 use Rattle.audio.specs.CallsLaws.{no_room, long_enough, opens}
-use borrow.Author.Rules.{rules}
 use Rattle.audio.proofs.new.Goals as goal
 
 pub returns-then-number-ne0 : goal.returns-then-number-ne0

@@ -1,4 +1,3 @@
-use borrow.Author.Rules.{rules}
 use Rattle.audio.proofs.say.Goals as goal
 
 pub rate-requires : goal.rate-requires

@@ -1,16 +1,12 @@
-use Prim.Native.Nat.{ℕ, suc, ◌+◌}
+use Prim.Native.Nat.{suc}
 use native.Mathlib.Nat.{zero-add}
-use mathlib.Core.List.{List}
-use lib.Ieee.{Float, of_bits}
+use lib.Ieee.{of_bits}
 use mathlib.Core.Path.{◌≡◌, ap, sym, ◌∙◌}
-use mathlib.Core.Logic.{⊎_elim}
 use native.Mathlib.Omega.{arith}
 use lib.ListN.{length}
 use borrow.Author.Rules.{rules}
-use Rattle.synthesis.specs.Slots.{memory_length, output_length}
-use Rattle.clip.specs.Frames.{Heard, clip_of, rate_in}
-use Rattle.clip.specs.declared.Reached.{Reached}
-use Rattle.clip.specs.Turns.{heard_by, heard_next, few_in_clip, begins, one_found, none_found, one_fewer}
+use Rattle.clip.specs.Frames.{clip_of, rate_in}
+use Rattle.clip.specs.Turns.{heard_next, few_in_clip, begins, one_found, none_found, one_fewer}
 use Rattle.clip.proofs.count.Invariants.{heard_from}
 use Rattle.clip.proofs.count.Goals as goal
 use Rattle.clip.proofs.count.Goals.{then-at, else-at}
@@ -24,7 +20,7 @@ loop-at-init c =
       search rules,
       search rules,
       elim c.if-at.branch [
-        then-at w ↦ w.rate-is ∙ sym (ap rate_in (is ∙ one_found _ _ w.if-at.true))
+        | then-at w ↦ w.rate-is ∙ sym (ap rate_in (is ∙ one_found _ _ w.if-at.true))
         | else-at w ↦ w.rate-is ∙ sym (ap rate_in (is ∙ none_found _ _ w.if-at.false))
       ],
       zero-add _ ∙ ap length (sym is),
@@ -42,7 +38,7 @@ loop-at-smaller c =
     let e = n.ensures in
     let s = c.args.stream.now in
     let less : length (heard_from s l.at l.memory l.output) ≡ suc (length (heard_from s n.result n.new.memory n.new.output)) =
-        one_fewer _ _ _ c.loop-at-test.true (heard_next _ _ _ _ _ _ _ _ e.value e.memory_after e.output_after) in
+    one_fewer _ _ _ c.loop-at-test.true (heard_next _ _ _ _ _ _ _ _ e.value e.memory_after e.output_after) in
     omega (arith, less)
 
 pub loop-at-preserved : goal.loop-at-preserved
@@ -52,7 +48,7 @@ loop-at-preserved c =
     let e = n.ensures in
     let s = c.args.stream.now in
     let less : length (heard_from s l.at l.memory l.output) ≡ suc (length (heard_from s n.result n.new.memory n.new.output)) =
-        one_fewer _ _ _ c.loop-at-test.true (heard_next _ _ _ _ _ _ _ _ e.value e.memory_after e.output_after) in
+    one_fewer _ _ _ c.loop-at-test.true (heard_next _ _ _ _ _ _ _ _ e.value e.memory_after e.output_after) in
     (search rules, search rules, search rules, omega (arith, less, l.invariant.3))
 
 pub returns : goal.returns

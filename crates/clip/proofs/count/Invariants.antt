@@ -1,16 +1,12 @@
-use Prim.Native.Nat.{ℕ, suc, ◌+◌}
-use native.Mathlib.Nat.{zero-add}
+use Prim.Native.Nat.{ℕ, ◌+◌}
 use mathlib.Core.List.{List}
-use lib.Ieee.{Float, of_bits}
-use mathlib.Core.Path.{◌≡◌, ap, sym, ◌∙◌}
-use mathlib.Core.Logic.{⊎_elim}
-use native.Mathlib.Omega.{arith}
+use lib.Ieee.{Float}
+use mathlib.Core.Path.{◌≡◌}
 use lib.ListN.{length}
-use borrow.Author.Rules.{rules}
 use Rattle.synthesis.specs.Slots.{memory_length, output_length}
 use Rattle.clip.specs.Frames.{Heard, clip_of, rate_in}
 use Rattle.clip.specs.declared.Reached.{Reached}
-use Rattle.clip.specs.Turns.{heard_by, heard_next, few_in_clip, begins, one_found, none_found, one_fewer}
+use Rattle.clip.specs.Turns.{heard_by}
 use Rattle.clip.proofs.count.Given as goal
 
 -- what is heard from here on

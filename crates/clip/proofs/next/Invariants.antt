@@ -1,9 +1,6 @@
-use mathlib.Core.Path.{◌≡◌, ◌∙◌}
-use native.Mathlib.Omega.{arith}
+use mathlib.Core.Path.{◌≡◌}
 use lib.ListN.{length}
-use borrow.Author.Rules.{rules}
 use Rattle.clip.specs.Frames.{turn_of}
-use Rattle.clip.proofs.Turns.{frame_rate, frame_found, end_found, goes_past, by_parts, no_call_left}
 use Rattle.clip.proofs.next.Given as goal
 
 abbrev pub invariant-loop-calls : goal.invariant-loop-calls

@@ -3,7 +3,6 @@ use lib.ListN.{length}
 use Rattle.clip.specs.declared.Playing.{Playing}
 use mathlib.Core.Path.{ap, ◌∙◌}
 use Rattle.audio.specs.Calls.{open_of}
-use borrow.Author.Rules.{rules}
 use Rattle.clip.proofs.start.Goals as goal
 
 pub returns : goal.returns

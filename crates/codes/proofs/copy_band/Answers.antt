@@ -1,3 +1,4 @@
+-- `codes::copy_band` meets its contract.
 use mathlib.Core.Path.{◌≡◌}
 use Prim.Native.Nat.{◌<◌, ◌^◌, ◌+◌}
 use borrow.Author.Rules.{sfits_of}
@@ -10,7 +11,6 @@ use mir.ValLaws.{to_z-of_z}
 use Rattle.codes.specs.Frame.{copied}
 use Rattle.codes.proofs.copy_band.Goals as goal
 
--- `codes::copy_band` meets its contract.
 -- an element of the array is read back from its bits
 kept : (v : ℤ) → mag v < 2 ^ 31 → to_z w32 (of_z w32 v) ≡ v
 kept v h = to_z-of_z w32 v (sfits_of h)

@@ -1,3 +1,4 @@
+-- `codes::cut_in_three` meets its contract: a shift by at most 10 loses nothing.
 use Prim.Native.Nat.{ℕ, ◌*◌, ◌%◌, ◌^◌, ◌≤◌}
 use mathlib.Core.Path.{◌≡◌, ◌∙◌}
 use native.Mathlib.Nat.{one-mul}
@@ -6,7 +7,6 @@ use lib.Dec.{lit<}
 use lib.Pow.{pow_pos, shl_exact}
 use Rattle.codes.proofs.cut_in_three.Goals as goal
 
--- `codes::cut_in_three` meets its contract: a shift by at most 10 loses nothing.
 size : (bits : ℕ) → bits ≤ 10 → 1 * 2 ^ bits % 4294967296 ≡ 2 ^ bits
 size bits h = shl_exact 1 bits 32 (lit< tt) (omega arith) ∙ one-mul (2 ^ bits)
 

@@ -1,3 +1,4 @@
+-- `codes::read_codes` meets its contract.
 use mathlib.Core.Path.{ap, sym, ◌∙◌}
 use Rattle.buffer.specs.Calls.{field_of}
 use Rattle.grammar.specs.Reads.{ran}

@@ -1,3 +1,4 @@
+-- `codes::read_singles` meets its contract.
 use mathlib.Core.Path.{sym}
 use Rattle.grammar.specs.Run.{field_then, run_done}
 use Rattle.codes.specs.Frame.{singles_of}

@@ -1,3 +1,4 @@
+-- `codes::read_three` meets its contract: a field that moves has all its bits.
 use mathlib.Core.Path.{ap, ◌∙◌}
 use Rattle.grammar.specs.Reads.{ran}
 use Rattle.codes.specs.Three.{at_once}

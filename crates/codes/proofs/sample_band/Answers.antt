@@ -1,3 +1,4 @@
+-- `codes::sample_band` meets its contract.
 use borrow.Author.Tests.{lt-ltb, le-ltb}
 use Rattle.grammar.specs.Run.{run_done, and_then}
 use Rattle.side.specs.Bands.{pair_of}

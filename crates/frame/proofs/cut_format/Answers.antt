@@ -1,5 +1,4 @@
 use Rattle.frame.specs.Frame.{cut_format}
-use borrow.Author.Rules.{rules}
 use Rattle.frame.proofs.cut_format.Goals as goal
 
 pub returns : goal.returns

@@ -5,7 +5,6 @@ use Rattle.grammar.specs.Values.{learnt}
 use Rattle.side.specs.Values.{SideInRange, side_ranged}
 use Rattle.frame.specs.Frame.{frame_memory, frame_output}
 use Rattle.frame.proofs.Whole.{table<2, whole}
-use borrow.Author.Rules.{rules}
 use Rattle.frame.proofs.decode_frame.Goals as goal
 
 pub read_side-side-requires : goal.read_side-side-requires

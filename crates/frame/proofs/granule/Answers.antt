@@ -6,7 +6,6 @@ use Rattle.codes.specs.Frame.{granule_of}
 use Rattle.codes.specs.Values.{Bounded, granule_bounded}
 use Rattle.synthesis.specs.Slots.{slot_samples, memory_after, output_after}
 use Rattle.frame.proofs.Twelve.{bounded_small}
-use borrow.Author.Rules.{rules}
 use Rattle.frame.proofs.granule.Goals as goal
 
 pub synthesize-ring-requires : goal.synthesize-ring-requires

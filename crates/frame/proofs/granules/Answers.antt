@@ -1,12 +1,10 @@
 use borrow.Author.Rules.{rules}
-use Prim.Native.Nat.{◌≤◌, ◌-◌, ◌*◌}
+use Prim.Native.Nat.{◌*◌}
 use mathlib.Core.Path.{◌≡◌, refl}
 use native.Mathlib.Omega.{arith}
-use lib.ListN.{length}
-use Rattle.side.specs.Below.{side_with}
 use Rattle.synthesis.specs.Ring.{place_after}
 use Rattle.frame.specs.Frame.{frame_memory, frame_output}
-use Rattle.frame.proofs.Twelve.{After, after_none, after_more}
+use Rattle.frame.proofs.Twelve.{after_none, after_more}
 use Rattle.frame.proofs.granules.Goals as goal
 
 pub loop-g-init : goal.loop-g-init

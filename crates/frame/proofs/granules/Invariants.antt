@@ -1,12 +1,8 @@
-use borrow.Author.Rules.{rules}
-use Prim.Native.Nat.{◌≤◌, ◌-◌, ◌*◌}
-use mathlib.Core.Path.{◌≡◌, refl}
-use native.Mathlib.Omega.{arith}
+use Prim.Native.Nat.{◌≤◌, ◌-◌}
+use mathlib.Core.Path.{◌≡◌}
 use lib.ListN.{length}
 use Rattle.side.specs.Below.{side_with}
-use Rattle.synthesis.specs.Ring.{place_after}
-use Rattle.frame.specs.Frame.{frame_memory, frame_output}
-use Rattle.frame.proofs.Twelve.{After, after_none, after_more}
+use Rattle.frame.proofs.Twelve.{After}
 use Rattle.frame.proofs.granules.Given as goal
 
 abbrev pub invariant-loop-g : goal.invariant-loop-g

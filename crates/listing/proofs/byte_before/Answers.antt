@@ -1,7 +1,6 @@
 use Prim.Native.Nat.{ℕ, ◌-◌}
 use mathlib.Core.Path.{ap}
 use native.Mathlib.Omega.{arith}
-use borrow.Author.Rules.{rules}
 use Rattle.buffer.specs.declared.BytePos.{BytePos}
 use Rattle.listing.proofs.byte_before.Goals as goal
 

@@ -1,7 +1,6 @@
 use mathlib.Core.Path.{sym}
 use lib.ListN.{get_or-eq_default}
 use Rattle.tables.specs.Standard.{bit_rates}
-use borrow.Author.Rules.{rules}
 use Rattle.listing.proofs.kbps.Goals as goal
 
 pub returns : goal.returns

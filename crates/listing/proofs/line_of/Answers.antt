@@ -7,7 +7,6 @@ use Rattle.state.specs.declared.Audio.{Audio}
 use Rattle.audio.specs.declared.Answer.TheVariants.{Frame as FrameAnswer}
 use Rattle.listing.specs.Lines.{byte_before, byte_position, line_by}
 use Rattle.listing.specs.declared.Line.TheVariants.{Frame, End, Refused}
-use borrow.Author.Rules.{rules}
 use Rattle.listing.proofs.line_of.Goals as goal
 
 frame_line : (number bits rate kbps skipped : ℕ) (time : Float) (a : Audio) (end at : BytePos) → end ≡ byte_position a → at ≡ byte_before end bits

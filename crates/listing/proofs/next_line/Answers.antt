@@ -1,6 +1,5 @@
 use mathlib.Core.Path.{ap, ◌∙◌}
 use native.Mathlib.Omega.{arith}
-use borrow.Author.Rules.{rules}
 use Rattle.audio.specs.CallsLaws.{decode_passes_few}
 use Rattle.audio.specs.declared.Decoded.{Decoded}
 use Rattle.listing.specs.declared.Listed.{Listed}

@@ -1,4 +1,3 @@
-use Rattle.std.proofs.Common.{rules}
 use Rattle.probe.proofs.probe_layout.Goals as goal
 
 pub returns : goal.returns

@@ -1,14 +1,8 @@
-use Prim.Native.Nat.{◌≤◌}
-use mathlib.Core.Path.{◌≡◌, refl}
+use mathlib.Core.Path.{refl}
 use native.Mathlib.Omega.{arith}
 use lib.Ieee.{of_bits}
-use lib.ListN.{length}
 use borrow.Author.Rules.{rules}
-use Rattle.synthesis.specs.Slots.{memory_length, output_length}
-use Rattle.listing.specs.Lines.{shown_from}
 use Rattle.listing.specs.LinesLaws.{opening_carries_few}
-use Rattle.listing.specs.Text.{texts_of, listing_of}
-use Rattle.scribe.specs.Next.{Rest}
 use Rattle.report.proofs.Lengths.{listing_fits}
 use Rattle.report.proofs.Turns.{opening_next, calls_rest, line_next, none_left, after_last, after_other}
 use Rattle.report.proofs.list.Goals as goal

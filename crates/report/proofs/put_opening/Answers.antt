@@ -4,7 +4,6 @@ use mathlib.Core.Bool.{Bool, true, false}
 use mathlib.Core.List.{[], append-nil}
 use native.Mathlib.Omega.{arith}
 use lib.ListN.{length}
-use borrow.Author.Rules.{rules}
 use Rattle.state.specs.declared.Audio.{Audio}
 use Rattle.verdict.specs.declared.Heading.{Heading}
 use Rattle.verdict.specs.declared.Heading.TheVariants.{Known, Refused}
@@ -33,13 +32,13 @@ module _ (behind : Behind) (k : ℕ) (answer : Heading) (a : Audio) where
 pub put_line-requires : goal.put_line-requires
 put_line-requires c =
     let text_is : texts_of c.args.behind (opening_shown c.args.opened.skipped c.args.opened.answer c.args.opened.state) ≡ text_by c.args.behind (RefusedLine c.in-Refused.number c.byte_of-at.result c.args.opened.skipped) [] =
-        refusal _ _ _ _ _ _ c.in-Refused.is c.is_told.ensures _ c.byte_of-at.ensures c.if-is_told.true in
+    refusal _ _ _ _ _ _ c.in-Refused.is c.is_told.ensures _ c.byte_of-at.ensures c.if-is_told.true in
     record { stream_len_bound = c.requires.stream_len_bound; next = subst (Next _ _) text_is c.requires.next }
 
 pub returns-then-is_told : goal.returns-then-is_told
 returns-then-is_told c =
     let text_is : texts_of c.args.behind (opening_shown c.args.opened.skipped c.args.opened.answer c.args.opened.state) ≡ text_by c.args.behind (RefusedLine c.in-Refused.number c.byte_of-at.result c.args.opened.skipped) [] =
-        refusal _ _ _ _ _ _ c.in-Refused.is c.is_told.ensures _ c.byte_of-at.ensures c.if-is_told.true in
+    refusal _ _ _ _ _ _ c.in-Refused.is c.is_told.ensures _ c.byte_of-at.ensures c.if-is_told.true in
     omega (arith, c.put_line.ensures, ap length text_is)
 
 pub returns-in-Known : goal.returns-in-Known

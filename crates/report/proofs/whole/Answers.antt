@@ -1,5 +1,4 @@
 use native.Mathlib.Omega.{arith}
-use borrow.Author.Rules.{rules}
 use Rattle.report.proofs.Lengths.{listing_fits}
 use Rattle.report.proofs.Turns.{long_next, long_only}
 use Rattle.report.proofs.whole.Goals as goal

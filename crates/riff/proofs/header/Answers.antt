@@ -1,3 +1,4 @@
+-- `riff::header` meets its contract: with its four numbers put in, the blank header is the one defined. Assumes nothing.
 use mathlib.Core.Path.{◌≡◌, ap, sym, ◌∙◌}
 use lib.ListN.{length}
 use Rattle.riff.specs.Header.{wave_header_of, length_header}

@@ -1,3 +1,4 @@
+-- `riff::steps` meets its contract, by the three ways of Rounding. Assumes nothing.
 use mathlib.Core.Path.{◌≡◌, sym, ◌∙◌}
 use Prim.Native.Nat.{ℕ, ◌-◌, ◌*◌, ◌%◌, ◌^◌, ◌≤◌}
 use native.Mathlib.Nat.{one-mul}
@@ -7,7 +8,6 @@ use lib.Pow.{pow_pos, pow_mono, shl_exact}
 use Rattle.riff.proofs.Rounding.{far_below, one_or_more, between}
 use Rattle.riff.proofs.steps.Goals as goal
 
--- `riff::steps` meets its contract, by the three ways of Rounding. Assumes nothing.
 half : (field : ℕ) → 111 ≤ field → (1 * 2 ^ (134 - field)) % 2 ^ 32 ≡ 2 ^ (134 - field)
 half field l = shl_exact 1 (134 - field) 32 (lit< tt) (omega arith) ∙ one-mul (2 ^ (134 - field))
 

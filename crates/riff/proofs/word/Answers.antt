@@ -1,3 +1,4 @@
+-- `riff::word` meets its contract, by the pattern's fields. Assumes nothing.
 use mathlib.Core.Path.{◌≡◌, sym, ap, ◌∙◌}
 use Prim.Native.Nat.{ℕ, ◌+◌, ◌/◌, ◌%◌, ◌^◌}
 use native.Mathlib.Nat.{le_trans, min-eq_left, min-eq_right, min-le_right}
@@ -8,7 +9,6 @@ use Rattle.riff.proofs.Rounding.{steps_at}
 use Rattle.riff.proofs.Pattern.{nan_level, away, upward, downward}
 use Rattle.riff.proofs.word.Goals as goal
 
--- `riff::word` meets its contract, by the pattern's fields. Assumes nothing.
 pub returns-then-x : goal.returns-then-x
 returns-then-x c = nan_level c.args.x c.if-x.true
 

@@ -1,3 +1,4 @@
+-- `riff::write_samples` meets its contract: the bytes of the first `i` samples stand. Assumes nothing.
 use mathlib.Core.Path.{◌≡◌, sym, ap, ◌∙◌}
 use Prim.Native.Nat.{ℕ, ◌+◌, ◌*◌, ◌/◌, ◌%◌, ◌<◌}
 use borrow.Author.Rules.{rules}

@@ -1,3 +1,4 @@
+-- `riff::write_words` meets its contract: the first `i` words stand. Assumes nothing.
 use mathlib.Core.Path.{◌≡◌, sym, ◌∙◌}
 use Prim.Native.Nat.{ℕ}
 use borrow.Author.Rules.{rules}

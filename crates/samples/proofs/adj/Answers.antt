@@ -1,3 +1,4 @@
+-- `samples::adj` meets its contract: there are 3 to 65,535 levels.
 use Prim.Native.Nat.{ℕ, ◌≤◌, ◌<◌}
 use mathlib.Core.Path.{◌≡◌}
 use native.Mathlib.Omega.{arith}

@@ -1,3 +1,4 @@
+-- `samples::base` meets its contract.
 use mathlib.Core.Path.{◌≡◌}
 use native.Mathlib.Omega.{arith}
 use Rattle.samples.proofs.base.Goals as goal

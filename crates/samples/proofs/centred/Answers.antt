@@ -1,3 +1,4 @@
+-- `samples::centred` meets its contract: no step leaves the `i32`, so each is the step on integers.
 use Prim.Native.Nat.{ℕ, ◌≤◌}
 use mathlib.Core.Path.{◌≡◌, refl}
 use native.Mathlib.Omega.{arith}

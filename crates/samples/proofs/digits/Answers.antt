@@ -1,3 +1,4 @@
+-- `samples::digits` meets its contract.
 use Rattle.samples.proofs.digits.Goals as goal
 
 pub returns-in-3 : goal.returns-in-3

@@ -1,3 +1,4 @@
+-- `samples::factor` meets its contract: a test of what the code computes, at each index below 63.
 use Prim.Native.Nat.{ℕ, ◌+◌, ◌*◌, ◌/◌, ◌%◌, ◌^◌, ◌<◌}
 use mathlib.Core.Bool.{Bool, ◌&&◌}
 use native.Mathlib.Omega.{arith}
@@ -7,7 +8,6 @@ use Rattle.ground.specs.Upto.{below, and_left, and_right}
 use Rattle.samples.specs.Sample.{factor_of, bases}
 use Rattle.samples.proofs.factor.Goals as goal
 
--- `samples::factor` meets its contract: a test of what the code computes, at each index below 63.
 -- what the code adds, and what it gives
 abbrev sum : ℕ → ℕ
 sum i = get_or bases (i % 3) 0 + 1 * 2 ^ (i / 3) % 4294967296 / 2

@@ -1,3 +1,4 @@
+-- `samples::sample` meets its contract.
 use Prim.Native.Nat.{◌≤◌, ◌/◌, ◌%◌}
 use mathlib.Core.Path.{◌≡◌, ap, ◌∙◌}
 use native.Mathlib.Omega.{arith}

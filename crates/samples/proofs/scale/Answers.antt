@@ -1,3 +1,5 @@
+-- `samples::scale` meets its contract: the grouped quantisers one by one, the others by the rule.
+use Rattle.std.proofs.Common.{rules}
 use Prim.Native.Nat.{◌≤◌}
 use native.Mathlib.Omega.{arith}
 use Rattle.tables.specs.Standard.{classes, quantisation_of, levels_of}
@@ -6,7 +8,6 @@ use Rattle.samples.specs.Sample.{scale_of}
 use Rattle.samples.proofs.Quantisers.{scale_rule}
 use Rattle.samples.proofs.scale.Goals as goal
 
--- `samples::scale` meets its contract: the grouped quantisers one by one, the others by the rule.
 small : (c : goal.After-code_bits) → c.code_bits.result ≤ 16
 small c = rw c.code_bits.ensures (bits≤16 c.args.q)
 
@@ -30,6 +31,4 @@ returns-in-4 c = rw c.in-4.is
 
 pub returns-in_default : goal.returns-in_default
 returns-in_default c =
-    let m = c.in_default.in_default-own.rest in
-    rw c.code_bits.ensures
-    (scale_rule c.args.q c.requires.1 m.0.0.1 m.0.1 m.1)
+    rw c.code_bits.ensures (scale_rule c.args.q c.requires.1 (λ e. search rules) (λ e. search rules) (λ e. search rules))

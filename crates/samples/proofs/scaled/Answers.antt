@@ -1,3 +1,5 @@
+-- `samples::scaled` meets its contract: no step leaves the `i32`, so each is the step on integers. `read_back` says that an
+-- integer of small magnitude is read back from its bits.
 use Prim.Native.Nat.{ℕ, ◌≤◌}
 use mathlib.Core.Path.{◌≡◌, refl}
 use lib.Dec.{lit<, lit≤}

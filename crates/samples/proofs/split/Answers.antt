@@ -1,10 +1,10 @@
+-- `samples::split` meets its contract: what a quotient leaves over is the remainder.
 use Prim.Native.Nat.{ℕ, ◌-◌, ◌*◌, ◌/◌, ◌%◌}
 use mathlib.Core.Path.{◌≡◌}
 use native.Mathlib.Nat.{div-add-mod', div-mul-le_self, div-le_self}
 use native.Mathlib.Omega.{arith}
 use Rattle.samples.proofs.split.Goals as goal
 
--- `samples::split` meets its contract: what a quotient leaves over is the remainder.
 over : (n m : ℕ) → n - n / m * m ≡ n % m
 over n m = omega (arith, div-add-mod' n m)
 

@@ -1,4 +1,3 @@
-use borrow.Author.Rules.{rules}
 use Rattle.scribe.proofs.descriptor.Goals as goal
 
 pub returns-in-Lines : goal.returns-in-Lines

@@ -1,3 +1,4 @@
+-- `side::allocation_band` meets its contract.
 use borrow.Author.Tests.{lt-ltb, le-ltb}
 use Rattle.grammar.specs.Run.{run_done, and_then}
 use Rattle.side.specs.Bands.{pair_of}
@@ -5,7 +6,6 @@ use Rattle.side.specs.Side.{allocation_band_of}
 use native.Mathlib.Omega.{arith}
 use Rattle.side.proofs.allocation_band.Goals as goal
 
--- `side::allocation_band` meets its contract.
 pub read_allocation-left-requires : goal.read_allocation-left-requires
 read_allocation-left-requires c =
     let p = c.requires in

@@ -1,3 +1,4 @@
+-- `side::read_allocation` meets its contract: an allocation has at most 4 bits.
 use Prim.Native.Nat.{◌<◌, ◌^◌}
 use native.Mathlib.Nat.{lt_of_lt_of_le}
 use lib.Pow.{pow_mono}

@@ -1,3 +1,4 @@
+-- `side::read_factors` meets its contract: which selector it is decides how many fields there are.
 use Rattle.side.proofs.Choices.{one_factor, first_twice, second_twice, three_factors}
 use Rattle.side.proofs.read_factors.Goals as goal
 

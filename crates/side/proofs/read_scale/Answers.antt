@@ -1,3 +1,4 @@
+-- `side::read_scale` meets its contract.
 use borrow.Author.Tests.{eq-eqb, ne_eqb}
 use Rattle.grammar.specs.Run.{run_done}
 use Rattle.side.proofs.read_scale.Goals as goal

@@ -1,3 +1,4 @@
+-- `side::read_selector` meets its contract.
 use borrow.Author.Tests.{eq-eqb, ne_eqb}
 use Rattle.grammar.specs.Run.{run_done, field_then}
 use Rattle.side.specs.Side.{selector_of}

@@ -1,3 +1,4 @@
+-- `side::read_side` meets its contract.
 use mathlib.Core.Path.{sym}
 use Rattle.grammar.specs.Run.{run_done, and_then}
 use Rattle.side.specs.Side.{side_of}

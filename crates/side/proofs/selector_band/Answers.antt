@@ -1,3 +1,4 @@
+-- `side::selector_band` meets its contract.
 use Rattle.grammar.specs.Run.{run_done, and_then}
 use Rattle.side.specs.Bands.{pair_of, channels_of}
 use Rattle.side.proofs.selector_band.Goals as goal

@@ -1,6 +1,5 @@
 use mathlib.Core.Path.{sym, ◌∙◌}
 use Rattle.state.specs.State.{in_range}
-use borrow.Author.Rules.{rules}
 use Rattle.state.proofs.in_range.Goals as goal
 
 pub returns-then-numbers_ok : goal.returns-then-numbers_ok

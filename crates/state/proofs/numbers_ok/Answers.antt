@@ -1,6 +1,5 @@
 use mathlib.Core.Path.{refl}
 use Rattle.state.specs.State.{numbers_ok}
-use borrow.Author.Rules.{rules}
 use Rattle.state.proofs.numbers_ok.Goals as goal
 
 pub returns : goal.returns

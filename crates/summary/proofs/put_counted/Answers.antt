@@ -2,7 +2,6 @@ use mathlib.Core.Path.{ap, subst}
 use mathlib.Core.List.{◌++◌}
 use native.Mathlib.Omega.{arith}
 use lib.ListN.{length, length-append}
-use borrow.Author.Rules.{rules}
 use Rattle.listing.specs.Summary.{counted_text}
 use Rattle.listing.specs.Text.{numbered}
 use Rattle.scribe.specs.Next.{Next, first_next, second_next}
@@ -19,7 +18,7 @@ pub put-named-requires : goal.put-named-requires
 unfolding counted_text
 put-named-requires c =
     let behind_number : Next (whole_of c.args.what c.args.stream.now) c.put_number-counted.result.bytes (c.args.things.now ++ plural_of c.args.n) =
-        second_next (numbered c.args.word.now c.args.n) _ c.put_number-counted.ensures c.requires.next in
+    second_next (numbered c.args.word.now c.args.n) _ c.put_number-counted.ensures c.requires.next in
     let whole = fits_first _ _ c.requires.stream_len_bound behind_number in
     record { piece_bound = whole.0; next = whole.1 }
 
@@ -40,7 +39,7 @@ pub put-requires : goal.put-requires
 unfolding counted_text
 put-requires c =
     let behind_number : Next (whole_of c.args.what c.args.stream.now) c.put_number-counted.result.bytes (c.args.things.now ++ plural_of c.args.n) =
-        second_next (numbered c.args.word.now c.args.n) _ c.put_number-counted.ensures c.requires.next in
+    second_next (numbered c.args.word.now c.args.n) _ c.put_number-counted.ensures c.requires.next in
     let last = second_next c.args.things.now (plural_of c.args.n) c.put-named.ensures behind_number in
     let whole = fits_next c.requires.stream_len_bound (subst (Next _ _) (many_things _ c.if-n-eq1.false) last) in
     record { piece_bound = whole.0; next = whole.1 }

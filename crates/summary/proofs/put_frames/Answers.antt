@@ -2,7 +2,6 @@ use mathlib.Core.Path.{ap, sym, subst}
 use mathlib.Core.List.{[], ◌++◌}
 use native.Mathlib.Omega.{arith}
 use lib.ListN.{length, length-append}
-use borrow.Author.Rules.{rules}
 use Rattle.listing.specs.Summary.{counted_text, hundredths_of, seconds_text}
 use Rattle.listing.specs.Words.{letters}
 use Rattle.scribe.specs.Next.{Next, first_next, second_next}
@@ -24,13 +23,13 @@ returns-then-frames-eq0 c =
 pub put_counted-counted-requires : goal.put_counted-counted-requires
 put_counted-counted-requires c =
     let both_next : Next (whole_of c.args.what c.args.stream.now) c.args.done.bytes (counted_text [] c.args.frames.count (letters " frame") ++ seconds_text (hundredths_of c.args.frames.count c.args.frames.first)) =
-        subst (Next _ _) (some_frames _ _ c.if-frames-eq0.false) c.requires.next in
+    subst (Next _ _) (some_frames _ _ c.if-frames-eq0.false) c.requires.next in
     record { stream_len_bound = c.requires.stream_len_bound; next = first_next _ _ both_next }
 
 pub put_seconds-requires : goal.put_seconds-requires
 put_seconds-requires c =
     let both_next : Next (whole_of c.args.what c.args.stream.now) c.args.done.bytes (counted_text [] c.args.frames.count (letters " frame") ++ seconds_text (hundredths_of c.args.frames.count c.args.frames.first)) =
-        subst (Next _ _) (some_frames _ _ c.if-frames-eq0.false) c.requires.next in
+    subst (Next _ _) (some_frames _ _ c.if-frames-eq0.false) c.requires.next in
     let behind = second_next (counted_text [] c.args.frames.count (letters " frame")) _ c.put_counted-counted.ensures both_next in record { stream_len_bound = c.requires.stream_len_bound; next = subst (Next _ _) (ap seconds_text (sym c.hundredths.ensures)) behind }
 
 pub returns : goal.returns

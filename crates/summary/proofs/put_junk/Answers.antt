@@ -2,7 +2,6 @@ use mathlib.Core.Path.{ap, subst}
 use mathlib.Core.List.{◌++◌}
 use native.Mathlib.Omega.{arith}
 use lib.ListN.{length, length-append}
-use borrow.Author.Rules.{rules}
 use Rattle.listing.specs.Summary.{counted_text}
 use Rattle.listing.specs.Words.{letters}
 use Rattle.scribe.specs.Next.{Next, first_next, second_next}
@@ -17,13 +16,13 @@ returns-then-bytes-eq0 c = omega (arith, ap length (no_junk c.args.bytes c.if-by
 pub put_counted-counted-requires : goal.put_counted-counted-requires
 put_counted-counted-requires c =
     let both_next : Next (whole_of c.args.what c.args.stream.now) c.args.done.bytes (counted_text (letters "; ") c.args.bytes (letters " byte") ++ letters " of junk in front") =
-        subst (Next _ _) (some_junk _ c.if-bytes-eq0.false) c.requires.next in
+    subst (Next _ _) (some_junk _ c.if-bytes-eq0.false) c.requires.next in
     record { stream_len_bound = c.requires.stream_len_bound; next = first_next _ _ both_next }
 
 pub put-requires : goal.put-requires
 put-requires c =
     let both_next : Next (whole_of c.args.what c.args.stream.now) c.args.done.bytes (counted_text (letters "; ") c.args.bytes (letters " byte") ++ letters " of junk in front") =
-        subst (Next _ _) (some_junk _ c.if-bytes-eq0.false) c.requires.next in
+    subst (Next _ _) (some_junk _ c.if-bytes-eq0.false) c.requires.next in
     let whole = fits_next c.requires.stream_len_bound
     (second_next (counted_text (letters "; ") c.args.bytes (letters " byte")) _ c.put_counted-counted.ensures both_next) in
     record { piece_bound = whole.0; next = whole.1 }

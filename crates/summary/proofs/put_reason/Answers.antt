@@ -1,7 +1,6 @@
 use mathlib.Core.List.{◌++◌}
 use native.Mathlib.Omega.{arith}
 use lib.ListN.{length-append}
-use borrow.Author.Rules.{rules}
 use Rattle.listing.specs.Summary.{reason_text}
 use Rattle.listing.specs.Text.{numbered, bracketed}
 use Rattle.listing.specs.Words.{letters, reason_of}
@@ -18,7 +17,7 @@ pub put-opened-requires : goal.put-opened-requires
 unfolding reason_text bracketed
 put-opened-requires c =
     let behind_number : Next (whole_of c.args.what c.args.stream.now) c.put_number-numbered.result.bytes (letters " (" ++ (reason_of c.args.number ++ letters ")")) =
-        second_next (numbered c.args.word.now c.args.number) _ c.put_number-numbered.ensures c.requires.next in
+    second_next (numbered c.args.word.now c.args.number) _ c.put_number-numbered.ensures c.requires.next in
     let whole = fits_first (letters " (") _ c.requires.stream_len_bound behind_number in
     record { piece_bound = whole.0; next = whole.1 }
 
@@ -26,18 +25,18 @@ pub put_reason-told-requires : goal.put_reason-told-requires
 unfolding reason_text bracketed
 put_reason-told-requires c =
     let behind_number : Next (whole_of c.args.what c.args.stream.now) c.put_number-numbered.result.bytes (letters " (" ++ (reason_of c.args.number ++ letters ")")) =
-        second_next (numbered c.args.word.now c.args.number) _ c.put_number-numbered.ensures c.requires.next in
+    second_next (numbered c.args.word.now c.args.number) _ c.put_number-numbered.ensures c.requires.next in
     let behind_bracket : Next (whole_of c.args.what c.args.stream.now) c.put-opened.result.bytes (reason_of c.args.number ++ letters ")") =
-        second_next (letters " (") _ c.put-opened.ensures behind_number in
+    second_next (letters " (") _ c.put-opened.ensures behind_number in
     record { stream_len_bound = c.requires.stream_len_bound; next = first_next _ _ behind_bracket }
 
 pub put-requires : goal.put-requires
 unfolding reason_text bracketed
 put-requires c =
     let behind_number : Next (whole_of c.args.what c.args.stream.now) c.put_number-numbered.result.bytes (letters " (" ++ (reason_of c.args.number ++ letters ")")) =
-        second_next (numbered c.args.word.now c.args.number) _ c.put_number-numbered.ensures c.requires.next in
+    second_next (numbered c.args.word.now c.args.number) _ c.put_number-numbered.ensures c.requires.next in
     let behind_bracket : Next (whole_of c.args.what c.args.stream.now) c.put-opened.result.bytes (reason_of c.args.number ++ letters ")") =
-        second_next (letters " (") _ c.put-opened.ensures behind_number in
+    second_next (letters " (") _ c.put-opened.ensures behind_number in
     let whole = fits_next c.requires.stream_len_bound (second_next (reason_of c.args.number) (letters ")") c.put_reason-told.ensures behind_bracket) in
     record { piece_bound = whole.0; next = whole.1 }
 

@@ -2,7 +2,6 @@ use mathlib.Core.Path.{ap, subst}
 use mathlib.Core.List.{◌++◌}
 use native.Mathlib.Omega.{arith}
 use lib.ListN.{length, length-append}
-use borrow.Author.Rules.{rules}
 use Rattle.listing.specs.Summary.{counted_text, reason_text}
 use Rattle.listing.specs.Text.{numbered}
 use Rattle.listing.specs.Words.{letters}
@@ -19,24 +18,24 @@ returns-then-refused-eq0 c =
 pub put_counted-counted-requires : goal.put_counted-counted-requires
 put_counted-counted-requires c =
     let all_next : Next (whole_of c.args.what c.args.stream.now) c.args.done.bytes (counted_text (letters "; ") c.args.refused.count (letters " call") ++ (reason_text (letters " refused with ") c.args.number ++ numbered (letters " from byte ") c.args.refused.first)) =
-        subst (Next _ _) (some_refusals _ _ _ c.if-refused-eq0.false) c.requires.next in
+    subst (Next _ _) (some_refusals _ _ _ c.if-refused-eq0.false) c.requires.next in
     record { stream_len_bound = c.requires.stream_len_bound; next = first_next _ _ all_next }
 
 pub put_reason-named-requires : goal.put_reason-named-requires
 put_reason-named-requires c =
     let all_next : Next (whole_of c.args.what c.args.stream.now) c.args.done.bytes (counted_text (letters "; ") c.args.refused.count (letters " call") ++ (reason_text (letters " refused with ") c.args.number ++ numbered (letters " from byte ") c.args.refused.first)) =
-        subst (Next _ _) (some_refusals _ _ _ c.if-refused-eq0.false) c.requires.next in
+    subst (Next _ _) (some_refusals _ _ _ c.if-refused-eq0.false) c.requires.next in
     let behind_count : Next (whole_of c.args.what c.args.stream.now) c.put_counted-counted.result.bytes (reason_text (letters " refused with ") c.args.number ++ numbered (letters " from byte ") c.args.refused.first) =
-        second_next (counted_text (letters "; ") c.args.refused.count (letters " call")) _ c.put_counted-counted.ensures
+    second_next (counted_text (letters "; ") c.args.refused.count (letters " call")) _ c.put_counted-counted.ensures
     all_next in
     record { stream_len_bound = c.requires.stream_len_bound; next = first_next _ _ behind_count }
 
 pub put_number-requires : goal.put_number-requires
 put_number-requires c =
     let all_next : Next (whole_of c.args.what c.args.stream.now) c.args.done.bytes (counted_text (letters "; ") c.args.refused.count (letters " call") ++ (reason_text (letters " refused with ") c.args.number ++ numbered (letters " from byte ") c.args.refused.first)) =
-        subst (Next _ _) (some_refusals _ _ _ c.if-refused-eq0.false) c.requires.next in
+    subst (Next _ _) (some_refusals _ _ _ c.if-refused-eq0.false) c.requires.next in
     let behind_count : Next (whole_of c.args.what c.args.stream.now) c.put_counted-counted.result.bytes (reason_text (letters " refused with ") c.args.number ++ numbered (letters " from byte ") c.args.refused.first) =
-        second_next (counted_text (letters "; ") c.args.refused.count (letters " call")) _ c.put_counted-counted.ensures
+    second_next (counted_text (letters "; ") c.args.refused.count (letters " call")) _ c.put_counted-counted.ensures
     all_next in
     record { stream_len_bound = c.requires.stream_len_bound; next = second_next (reason_text (letters " refused with ") c.args.number) _ c.put_reason-named.ensures behind_count }
 

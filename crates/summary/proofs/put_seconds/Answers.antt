@@ -2,7 +2,6 @@ use Prim.Native.Nat.{◌/◌, ◌%◌}
 use mathlib.Core.List.{[], ◌++◌}
 use native.Mathlib.Omega.{arith}
 use lib.ListN.{length-append}
-use borrow.Author.Rules.{rules}
 use Rattle.listing.specs.Summary.{seconds_text}
 use Rattle.listing.specs.Text.{numbered}
 use Rattle.listing.specs.Words.{letters}
@@ -19,27 +18,27 @@ pub put_number-tenth-requires : goal.put_number-tenth-requires
 unfolding seconds_text
 put_number-tenth-requires c =
     let behind_whole : Next (whole_of c.args.what c.args.stream.now) c.put_number-whole.result.bytes (numbered (letters ".") (c.args.n / 10 % 10) ++ (numbered [] (c.args.n % 10) ++ letters " s")) =
-        second_next (numbered (letters ", ") (c.args.n / 100)) _ c.put_number-whole.ensures c.requires.next in
+    second_next (numbered (letters ", ") (c.args.n / 100)) _ c.put_number-whole.ensures c.requires.next in
     record { stream_len_bound = c.requires.stream_len_bound; next = first_next _ _ behind_whole }
 
 pub put_number-hundredth-requires : goal.put_number-hundredth-requires
 unfolding seconds_text
 put_number-hundredth-requires c =
     let behind_whole : Next (whole_of c.args.what c.args.stream.now) c.put_number-whole.result.bytes (numbered (letters ".") (c.args.n / 10 % 10) ++ (numbered [] (c.args.n % 10) ++ letters " s")) =
-        second_next (numbered (letters ", ") (c.args.n / 100)) _ c.put_number-whole.ensures c.requires.next in
+    second_next (numbered (letters ", ") (c.args.n / 100)) _ c.put_number-whole.ensures c.requires.next in
     let behind_tenth : Next (whole_of c.args.what c.args.stream.now) c.put_number-tenth.result.bytes (numbered [] (c.args.n % 10) ++ letters " s") =
-        second_next (numbered (letters ".") (c.args.n / 10 % 10)) _ c.put_number-tenth.ensures behind_whole in
+    second_next (numbered (letters ".") (c.args.n / 10 % 10)) _ c.put_number-tenth.ensures behind_whole in
     record { stream_len_bound = c.requires.stream_len_bound; next = first_next _ _ behind_tenth }
 
 pub put-requires : goal.put-requires
 unfolding seconds_text
 put-requires c =
     let behind_whole : Next (whole_of c.args.what c.args.stream.now) c.put_number-whole.result.bytes (numbered (letters ".") (c.args.n / 10 % 10) ++ (numbered [] (c.args.n % 10) ++ letters " s")) =
-        second_next (numbered (letters ", ") (c.args.n / 100)) _ c.put_number-whole.ensures c.requires.next in
+    second_next (numbered (letters ", ") (c.args.n / 100)) _ c.put_number-whole.ensures c.requires.next in
     let behind_tenth : Next (whole_of c.args.what c.args.stream.now) c.put_number-tenth.result.bytes (numbered [] (c.args.n % 10) ++ letters " s") =
-        second_next (numbered (letters ".") (c.args.n / 10 % 10)) _ c.put_number-tenth.ensures behind_whole in
+    second_next (numbered (letters ".") (c.args.n / 10 % 10)) _ c.put_number-tenth.ensures behind_whole in
     let behind_hundredth : Next (whole_of c.args.what c.args.stream.now) c.put_number-hundredth.result.bytes (letters " s") =
-        second_next (numbered [] (c.args.n % 10)) _ c.put_number-hundredth.ensures behind_tenth in
+    second_next (numbered [] (c.args.n % 10)) _ c.put_number-hundredth.ensures behind_tenth in
     let whole = fits_next c.requires.stream_len_bound behind_hundredth in
     record { piece_bound = whole.0; next = whole.1 }
 

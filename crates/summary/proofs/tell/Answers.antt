@@ -2,7 +2,6 @@ use mathlib.Core.Path.{ap}
 use mathlib.Core.List.{[]}
 use native.Mathlib.Omega.{arith}
 use lib.ListN.{length}
-use borrow.Author.Rules.{rules}
 use Rattle.listing.specs.Words.{letters}
 use Rattle.scribe.specs.Next.{nothing_written, rest_next}
 use Rattle.summary.proofs.Lengths.{summary_fits}

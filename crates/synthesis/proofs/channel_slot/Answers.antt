@@ -1,3 +1,4 @@
+-- `synthesis::channel_slot` meets its contract. Assumes nothing.
 use Rattle.synthesis.proofs.Halves.{channel}
 use Rattle.synthesis.proofs.channel_slot.Goals as goal
 

@@ -1,3 +1,4 @@
+-- `synthesis::slot` meets its contract: the halves are lent one after the other. Assumes nothing.
 use mathlib.Core.Path.{refl, ◌∙◌}
 use Prim.Native.Nat.{◌+◌, ◌*◌, ◌≤◌}
 use native.Mathlib.Omega.{arith}

@@ -1,3 +1,4 @@
+-- `synthesis::synthesize` meets its contract: position, memory and output are those after `n` slots. Assumes nothing.
 use borrow.Author.Rules.{rules}
 use mathlib.Core.Path.{◌≡◌, refl, sym, ◌∙◌}
 use native.Mathlib.Omega.{arith}

@@ -1,3 +1,4 @@
+-- `tables::allocation_bits` meets its contract.
 use Rattle.tables.specs.Source.{width_of}
 use Rattle.tables.proofs.allocation_bits.Goals as goal
 

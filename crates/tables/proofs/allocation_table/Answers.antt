@@ -1,3 +1,4 @@
+-- `tables::allocation_table` meets its contract, by the test over all 84 choices.
 use lib.Dec.{eqb}
 use Rattle.tables.specs.Differences.{table_of, same_table}
 use Rattle.tables.proofs.allocation_table.Goals as goal

@@ -1,3 +1,4 @@
+-- `tables::class` meets its contract.
 use Rattle.tables.specs.Source.{class_of}
 use Rattle.tables.proofs.class.Goals as goal
 

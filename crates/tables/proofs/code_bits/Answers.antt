@@ -1,3 +1,4 @@
+-- `tables::code_bits` meets its contract: the first five quantisers one by one, the others by the rule.
 use native.Mathlib.Omega.{arith}
 use Rattle.tables.specs.Standard.{classes, quantisation_of, code_bits_of}
 use Rattle.tables.proofs.Quantisers.{bits_rule}

@@ -1,3 +1,4 @@
+-- `tables::entry` meets its contract: a class of bit rates is at most 2.
 use Prim.Native.Nat.{ℕ, ◌≤◌}
 use mathlib.Core.Path.{◌≡◌}
 use mathlib.Core.Bool.{Bool}

@@ -1,9 +1,9 @@
+-- `tables::high_row` meets its contract, range by range.
 use native.Mathlib.Omega.{arith}
 use Rattle.tables.specs.Source.{source_row_of}
 use Rattle.tables.proofs.Rows.{spans}
 use Rattle.tables.proofs.high_row.Goals as goal
 
--- `tables::high_row` meets its contract, range by range.
 pub returns-in-0-to-2 : goal.returns-in-0-to-2
 unfolding source_row_of
 returns-in-0-to-2 c = spans 1 0x43 0 3 tt c.args.sb (omega arith) (omega arith)

@@ -1,3 +1,4 @@
+-- `tables::levels` meets its contract: 2 q + 1 for the grouped quantisers, a power of 2 less 1 for the others.
 use Prim.Native.Nat.{◌≤◌}
 use mathlib.Core.Path.{sym, ◌∙◌}
 use native.Mathlib.Omega.{arith}
@@ -5,7 +6,6 @@ use Rattle.tables.specs.Laws.{bits≤16}
 use Rattle.tables.proofs.Quantisers.{power_positive, levels_rule}
 use Rattle.tables.proofs.levels.Goals as goal
 
--- `tables::levels` meets its contract: 2 q + 1 for the grouped quantisers, a power of 2 less 1 for the others.
 bits_small : (c : goal.After-code_bits) → c.code_bits.result ≤ 16
 bits_small c = rw c.code_bits.ensures (bits≤16 c.args.q)
 

@@ -1,3 +1,4 @@
+-- `tables::limit` meets its contract, by the test over all 84 choices.
 use lib.Dec.{eqb}
 use Rattle.tables.specs.Standard.{limit_of}
 use Rattle.tables.specs.Differences.{same_limit}

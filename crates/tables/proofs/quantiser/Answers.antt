@@ -1,3 +1,4 @@
+-- `tables::quantiser` meets its contract: a subband leads to one of five rows.
 use native.Mathlib.Omega.{arith}
 use Rattle.tables.specs.Source.{quantiser_of}
 use Rattle.tables.specs.Laws.{row≤4}

@@ -1,3 +1,4 @@
+-- `tables::row` meets its contract.
 use mathlib.Core.Path.{ap, sym, ◌∙◌}
 use native.Mathlib.Omega.{arith}
 use Rattle.tables.specs.Source.{source_row_of}

@@ -1,4 +1,3 @@
-use borrow.Author.Rules.{rules}
 use mathlib.Core.Path.{ap, sym}
 use lib.Ieee.{of_bits}
 use Rattle.tag.specs.Boundary.{played_of}

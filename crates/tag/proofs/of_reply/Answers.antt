@@ -1,4 +1,3 @@
-use borrow.Author.Rules.{rules}
 use mathlib.Core.Path.{ap, sym}
 use Rattle.tag.specs.Boundary.{named_of}
 use Rattle.tag.proofs.of_reply.Goals as goal

@@ -1,10 +1,10 @@
+-- `tag::tag_samples16` meets its contract: where both have room, the first 2,304 of each are lent. Assumes nothing.
 use mathlib.Core.Path.{sym, ◌∙◌}
 use borrow.Author.Rules.{rules}
 use lib.Seq.{length-take-le}
 use Rattle.ground.specs.Tests.{tests}
 use Rattle.tag.proofs.tag_samples16.Goals as goal
 
--- `tag::tag_samples16` meets its contract: where both have room, the first 2,304 of each are lent. Assumes nothing.
 pub returns-then-output-lt-OUTPUT : goal.returns-then-output-lt-OUTPUT
 returns-then-output-lt-OUTPUT c = search (rules, tests)
 

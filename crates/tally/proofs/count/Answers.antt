@@ -1,14 +1,8 @@
-use Prim.Native.Nat.{◌≤◌}
-use mathlib.Core.Path.{◌≡◌}
 use native.Mathlib.Omega.{arith}
 use lib.Ieee.{of_bits}
-use lib.ListN.{length}
 use borrow.Author.Rules.{rules}
-use Rattle.synthesis.specs.Slots.{memory_length, output_length}
-use Rattle.readings.specs.declared.Reading.{Reading}
-use Rattle.listing.specs.Lines.{shown_from, lines_in}
 use Rattle.listing.specs.LinesLaws.{opening_carries_few}
-use Rattle.tally.proofs.Turns.{Counted, begins, none_left, room_left, after_last, after_other}
+use Rattle.tally.proofs.Turns.{begins, none_left, room_left, after_last, after_other}
 use Rattle.tally.proofs.count.Goals as goal
 
 pub loop-calls-init : goal.loop-calls-init
@@ -21,7 +15,7 @@ add-tally-requires c =
     let short = c.requires in
     let e = c.next_line-listed.ensures in
     let whole = room_left _ _ _ _ _ _ _ _ short (c.loop-calls.invariant.3 c.args.reading
-        (begins _ _ _ _ _ c.requires c.new-opened.ensures.value c.new-opened.ensures.memory_after c.opening-tally.ensures _ c.carried-carried.ensures)) c.loop-calls.invariant.2 _ _ _ (omega arith) e.value e.memory_after e.output_after in
+    (begins _ _ _ _ _ c.requires c.new-opened.ensures.value c.new-opened.ensures.memory_after c.opening-tally.ensures _ c.carried-carried.ensures)) c.loop-calls.invariant.2 _ _ _ (omega arith) e.value e.memory_after e.output_after in
     record { count_bound = whole.0; line_bound = whole.1 }
 
 pub loop-calls-preserved : goal.loop-calls-preserved
@@ -39,7 +33,7 @@ pub returns-after-loop-calls : goal.returns-after-loop-calls
 unfolding of_bits
 returns-after-loop-calls c =
     none_left _ _ _ _ _ _ _ _ c.requires (c.loop-calls.invariant.3 c.args.reading
-        (begins _ _ _ _ _ c.requires c.new-opened.ensures.value c.new-opened.ensures.memory_after c.opening-tally.ensures _ c.carried-carried.ensures)) (omega arith)
+    (begins _ _ _ _ _ c.requires c.new-opened.ensures.value c.new-opened.ensures.memory_after c.opening-tally.ensures _ c.carried-carried.ensures)) (omega arith)
 
 pub returns-then-is_last : goal.returns-then-is_last
 unfolding of_bits
@@ -47,5 +41,5 @@ returns-then-is_last c =
     let short = c.requires in
     let e = c.next_line-listed.ensures in
     after_last _ _ _ _ _ _ _ _ short (c.loop-calls.invariant.3 c.args.reading
-        (begins _ _ _ _ _ c.requires c.new-opened.ensures.value c.new-opened.ensures.memory_after c.opening-tally.ensures _ c.carried-carried.ensures)) c.loop-calls.invariant.2 _ _ _ (omega arith) e.value e.memory_after e.output_after _ _ c.add-tally.ensures
+    (begins _ _ _ _ _ c.requires c.new-opened.ensures.value c.new-opened.ensures.memory_after c.opening-tally.ensures _ c.carried-carried.ensures)) c.loop-calls.invariant.2 _ _ _ (omega arith) e.value e.memory_after e.output_after _ _ c.add-tally.ensures
     c.is_last.ensures c.if-is_last.true

@@ -1,16 +1,13 @@
 use Prim.Native.Nat.{◌≤◌}
 use mathlib.Core.Path.{◌≡◌}
-use native.Mathlib.Omega.{arith}
-use lib.Ieee.{of_bits}
 use lib.ListN.{length}
-use borrow.Author.Rules.{rules}
 use Rattle.synthesis.specs.Slots.{memory_length, output_length}
 use Rattle.readings.specs.declared.Reading.{Reading}
 use Rattle.listing.specs.Lines.{shown_from, lines_in}
-use Rattle.listing.specs.LinesLaws.{opening_carries_few}
-use Rattle.tally.proofs.Turns.{Counted, begins, none_left, room_left, after_last, after_other}
+use Rattle.tally.proofs.Turns.{Counted}
 use Rattle.tally.proofs.count.Given as goal
 
+-- what is left to add is what the calls that are left will give; the loop does not know the reading
 abbrev pub invariant-loop-calls : goal.invariant-loop-calls
 invariant-loop-calls l =
     (length l.memory ≡ memory_length) × (length l.output ≡ output_length) × (l.carried ≤ length l.stream)

@@ -1,4 +1,4 @@
-use Rattle.std.proofs.Common.{ap, subst, rules}
+use Rattle.std.proofs.Common.{ap, subst}
 use Rattle.listing.specs.Text.{bare_text}
 use Rattle.scribe.specs.Next.{Next}
 use Rattle.text.proofs.Pieces.{piece_next}

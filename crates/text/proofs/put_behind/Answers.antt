@@ -1,4 +1,4 @@
-use Rattle.std.proofs.Common.{ap, subst, arith, rules}
+use Rattle.std.proofs.Common.{ap, subst, arith}
 use Rattle.listing.specs.Text.{behind_of}
 use Rattle.scribe.specs.Next.{Next}
 use Rattle.text.proofs.put_behind.Goals as goal

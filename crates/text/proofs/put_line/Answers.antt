@@ -1,4 +1,4 @@
-use Rattle.std.proofs.Common.{◌++◌, arith, length-append, rules}
+use Rattle.std.proofs.Common.{◌++◌, arith, length-append}
 use Rattle.listing.specs.Text.{newline, bare_text, behind_of, listing_of}
 use Rattle.scribe.specs.Next.{Next, first_next, second_next}
 use Rattle.text.proofs.put_line.Goals as goal
@@ -9,13 +9,13 @@ put_bare-bare-requires c = record { stream_len_bound = c.requires.stream_len_bou
 pub put_behind-told-requires : goal.put_behind-told-requires
 put_behind-told-requires c =
     let behind_bare : Next (listing_of c.args.reading c.args.behind c.args.stream.now) c.put_bare-bare.result.bytes (behind_of c.args.behind c.args.line c.args.samples.now ++ newline) =
-        second_next (bare_text c.args.line) _ c.put_bare-bare.ensures c.requires.next in
+    second_next (bare_text c.args.line) _ c.put_bare-bare.ensures c.requires.next in
     record { stream_len_bound = c.requires.stream_len_bound; next = first_next _ _ behind_bare }
 
 pub put-requires : goal.put-requires
 put-requires c =
     let behind_bare : Next (listing_of c.args.reading c.args.behind c.args.stream.now) c.put_bare-bare.result.bytes (behind_of c.args.behind c.args.line c.args.samples.now ++ newline) =
-        second_next (bare_text c.args.line) _ c.put_bare-bare.ensures c.requires.next in
+    second_next (bare_text c.args.line) _ c.put_bare-bare.ensures c.requires.next in
     let a = c.args in
     let last = second_next (behind_of a.behind a.line a.samples.now) newline c.put_behind-told.ensures behind_bare in record { piece_bound = omega (arith, c.requires.stream_len_bound, last.inside); next = last }
 

@@ -1,4 +1,4 @@
-use Rattle.std.proofs.Common.{ap, subst, rules}
+use Rattle.std.proofs.Common.{ap, subst}
 use Rattle.listing.specs.Words.{line_words}
 use Rattle.scribe.specs.Next.{Next}
 use Rattle.text.proofs.Pieces.{piece_next}

@@ -1,4 +1,5 @@
-use Rattle.std.proofs.Common.{◌≡◌, ℕ, ◌+◌, List, length, sym, ap, ◌∙◌, rules, ne_eqb}
+use Rattle.std.proofs.Common.{rules}
+use Rattle.std.proofs.Common.{◌≡◌, ℕ, ◌+◌, List, length, sym, ap, ◌∙◌, ne_eqb}
 use Rattle.listing.specs.Words.{letters, mode_words}
 use Rattle.text.proofs.Pieces.{piece_next}
 use Rattle.text.proofs.put_mode.Goals as goal
@@ -27,8 +28,7 @@ put-requires-in-2 c =
 
 pub put-requires-in_default : goal.put-requires-in_default
 put-requires-in_default c =
-    let none = c.in_default.in_default-own.rest in
-    let whole = piece_next (no_other _ none.0.0.1 none.0.1 none.1) c.requires.stream_len_bound c.requires.next in
+    let whole = piece_next (no_other _ (λ e. search rules) (λ e. search rules) (λ e. search rules)) c.requires.stream_len_bound c.requires.next in
     record { piece_bound = whole.0; next = whole.1 }
 
 pub returns-in-0 : goal.returns-in-0
@@ -52,5 +52,4 @@ returns-in-2 c =
 pub returns-in_default : goal.returns-in_default
 returns-in_default c =
     let a = c.args in
-    let none = c.in_default.in_default-own.rest in
-    c.put-in_default.ensures ∙ ap (λ (text : List ℕ). a.done.bytes + length text) (sym (no_other _ none.0.0.1 none.0.1 none.1))
+    c.put-in_default.ensures ∙ ap (λ (text : List ℕ). a.done.bytes + length text) (sym (no_other _ (λ e. search rules) (λ e. search rules) (λ e. search rules)))

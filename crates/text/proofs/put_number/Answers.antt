@@ -1,4 +1,4 @@
-use Rattle.std.proofs.Common.{ℕ, ◌+◌, List, ◌++◌, length, sym, ap, ◌∙◌, subst, arith, rules}
+use Rattle.std.proofs.Common.{ℕ, ◌+◌, List, ◌++◌, length, sym, ap, ◌∙◌, subst, arith}
 use Rattle.listing.specs.Text.{numbered}
 use Rattle.scribe.specs.Next.{Next}
 use Rattle.text.proofs.Digits.{decimal_spelled}

@@ -1,4 +1,5 @@
-use Rattle.std.proofs.Common.{◌≡◌, ℕ, ◌+◌, List, length, sym, ap, ◌∙◌, rules, ne_eqb}
+use Rattle.std.proofs.Common.{rules}
+use Rattle.std.proofs.Common.{◌≡◌, ℕ, ◌+◌, List, length, sym, ap, ◌∙◌, ne_eqb}
 use Rattle.listing.specs.Words.{letters, reason_of}
 use Rattle.text.proofs.Pieces.{piece_next}
 use Rattle.text.proofs.put_reason.Goals as goal
@@ -59,8 +60,7 @@ put-requires-in-13 c =
 
 pub put-requires-in_default : goal.put-requires-in_default
 put-requires-in_default c =
-    let none = c.in_default.in_default-own.rest in
-    let whole = piece_next (no_other _ none.0.0.0.0.0.0.0.1 none.0.0.0.0.0.0.1 none.0.0.0.0.0.1 none.0.0.0.0.1 none.0.0.0.1 none.0.0.1 none.0.1 none.1) c.requires.stream_len_bound c.requires.next in
+    let whole = piece_next (no_other _ (λ e. search rules) (λ e. search rules) (λ e. search rules) (λ e. search rules) (λ e. search rules) (λ e. search rules) (λ e. search rules) (λ e. search rules)) c.requires.stream_len_bound c.requires.next in
     record { piece_bound = whole.0; next = whole.1 }
 
 pub returns-in-1 : goal.returns-in-1
@@ -114,5 +114,4 @@ returns-in-13 c =
 pub returns-in_default : goal.returns-in_default
 returns-in_default c =
     let a = c.args in
-    let none = c.in_default.in_default-own.rest in
-    c.put-in_default.ensures ∙ ap (λ (text : List ℕ). a.done.bytes + length text) (sym (no_other _ none.0.0.0.0.0.0.0.1 none.0.0.0.0.0.0.1 none.0.0.0.0.0.1 none.0.0.0.0.1 none.0.0.0.1 none.0.0.1 none.0.1 none.1))
+    c.put-in_default.ensures ∙ ap (λ (text : List ℕ). a.done.bytes + length text) (sym (no_other _ (λ e. search rules) (λ e. search rules) (λ e. search rules) (λ e. search rules) (λ e. search rules) (λ e. search rules) (λ e. search rules) (λ e. search rules)))

@@ -1,4 +1,4 @@
-use Rattle.std.proofs.Common.{◌++◌, arith, length-append, rules}
+use Rattle.std.proofs.Common.{◌++◌, arith, length-append}
 use Rattle.listing.specs.Text.{bracketed}
 use Rattle.listing.specs.Words.{letters, line_words}
 use Rattle.scribe.specs.Next.{Next, first_next, second_next}
@@ -14,14 +14,14 @@ pub put_meaning-told-requires : goal.put_meaning-told-requires
 unfolding bracketed
 put_meaning-told-requires c =
     let behind_bracket : Next (whole_of c.args.what c.args.stream.now) c.put-opened.result.bytes (line_words c.args.line ++ letters ")") =
-        second_next (letters " (") _ c.put-opened.ensures c.requires.next in
+    second_next (letters " (") _ c.put-opened.ensures c.requires.next in
     record { stream_len_bound = c.requires.stream_len_bound; next = first_next _ _ behind_bracket }
 
 pub put-requires : goal.put-requires
 unfolding bracketed
 put-requires c =
     let behind_bracket : Next (whole_of c.args.what c.args.stream.now) c.put-opened.result.bytes (line_words c.args.line ++ letters ")") =
-        second_next (letters " (") _ c.put-opened.ensures c.requires.next in
+    second_next (letters " (") _ c.put-opened.ensures c.requires.next in
     let last = second_next (line_words c.args.line) (letters ")") c.put_meaning-told.ensures behind_bracket in record { piece_bound = omega (arith, c.requires.stream_len_bound, last.inside); next = last }
 
 pub returns : goal.returns

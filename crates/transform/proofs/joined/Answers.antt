@@ -1,3 +1,4 @@
+-- `transform::joined` meets its contract. Assumes nothing.
 use Rattle.ground.specs.Tests.{tests}
 use borrow.Author.Rules.{rules}
 use Rattle.transform.proofs.joined.Goals as goal

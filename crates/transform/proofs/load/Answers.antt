@@ -1,3 +1,5 @@
+-- `transform::load` meets its contract: the samples below `i` stand as floats.
+-- Assumes nothing.
 use native.Mathlib.Omega.{arith}
 use mir.Syntax.{w32}
 use mir.ValLaws.{to_z-of_z}

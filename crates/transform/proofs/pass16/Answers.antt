@@ -1,3 +1,4 @@
+-- `transform::pass16` meets its contract, by the law of one halving. Assumes nothing.
 use mathlib.Core.Path.{ap, ◌∙◌}
 use mathlib.Core.List.{List}
 use native.Mathlib.Omega.{arith}

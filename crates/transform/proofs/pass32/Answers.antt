@@ -1,3 +1,4 @@
+-- `transform::pass32` meets its contract, by the law of one halving. Assumes nothing.
 use mathlib.Core.Path.{refl}
 use native.Mathlib.Omega.{arith}
 use Rattle.transform.specs.Transform.{halving_factors, usual_factor, other_factor}

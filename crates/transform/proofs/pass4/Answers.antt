@@ -1,3 +1,4 @@
+-- `transform::pass4` meets its contract, by the law of one halving. Assumes nothing.
 use native.Mathlib.Omega.{arith}
 use Rattle.transform.specs.Transform.{halving_factors}
 use Rattle.transform.proofs.Halving.{wide}

@@ -1,3 +1,4 @@
+-- `transform::spread` meets its contract. Assumes nothing.
 use Rattle.ground.specs.Tests.{tests}
 use borrow.Author.Rules.{rules}
 use Rattle.transform.proofs.spread.Goals as goal

@@ -1,3 +1,5 @@
+-- `transform::spread_part` meets its contract: the values below `i` are the slot's.
+-- Assumes nothing.
 use native.Mathlib.Omega.{arith}
 use lib.ListN.{length-set}
 use lib.Ieee.{nan}

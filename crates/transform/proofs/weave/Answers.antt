@@ -1,3 +1,5 @@
+-- `transform::weave` meets its contract: the pairs below `i` are woven.
+-- Assumes nothing.
 use mathlib.Core.Path.{refl}
 use native.Mathlib.Omega.{arith}
 use lib.ListN.{length, length-set}

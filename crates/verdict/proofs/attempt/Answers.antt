@@ -10,7 +10,6 @@ use Rattle.header.specs.declared.Attempt.{Attempt}
 use Rattle.header.specs.declared.Header.{Header}
 use Rattle.state.specs.declared.Audio.{Audio}
 use Rattle.verdict.specs.Verdict.{attempt_of, seeking, tried}
-use borrow.Author.Rules.{rules}
 use Rattle.verdict.proofs.attempt.Goals as goal
 
 -- what was passed over is counted from the byte where the attempt began

@@ -1,6 +1,5 @@
 use mathlib.Core.Path.{ap, sym, ◌∙◌}
 use Rattle.verdict.specs.Verdict.{enough_of, holding}
-use borrow.Author.Rules.{rules}
 use Rattle.verdict.proofs.enough.Goals as goal
 
 pub returns-in-Yes : goal.returns-in-Yes

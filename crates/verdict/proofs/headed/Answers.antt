@@ -1,6 +1,5 @@
 use borrow.Author.Tests.{eq-eqb, ne_eqb}
 use Rattle.verdict.specs.Verdict.{headed_of}
-use borrow.Author.Rules.{rules}
 use Rattle.verdict.proofs.headed.Goals as goal
 
 pub returns-then-a-eq0 : goal.returns-then-a-eq0

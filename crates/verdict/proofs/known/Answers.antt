@@ -1,4 +1,3 @@
-use borrow.Author.Rules.{rules}
 use borrow.Author.Tests.{eq-eqb, ne_eqb}
 use Rattle.verdict.specs.Verdict.{known_of}
 use Rattle.verdict.specs.VerdictLaws.{refuses_at_once, asks_on}

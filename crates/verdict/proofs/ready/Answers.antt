@@ -1,4 +1,3 @@
-use borrow.Author.Rules.{rules}
 use mathlib.Core.Path.{sym, ◌∙◌}
 use Rattle.verdict.specs.Verdict.{ready_of}
 use Rattle.verdict.specs.VerdictLaws.{none_at_once, pended_small, goes_on, goes_back, refuses_at_once, asks_on}

@@ -1,15 +1,14 @@
-use Prim.Native.Nat.{ℕ, suc, ◌+◌, ◌-◌, ◌*◌, ◌<◌, ◌≤◌}
+use Prim.Native.Nat.{suc, ◌+◌, ◌<◌}
 use native.Mathlib.Numerals.{add-one}
 use mathlib.Core.Path.{◌≡◌, ap, sym, subst, ◌∙◌}
-use mathlib.Core.List.{List, ◌++◌}
+use mathlib.Core.List.{◌++◌}
 use native.Mathlib.Omega.{arith}
 use lib.Ieee.{of_bits}
-use lib.ListN.{length, drop, get_or}
+use lib.ListN.{length, drop}
 use borrow.Author.Rules.{rules}
-use Rattle.synthesis.specs.Slots.{memory_length, output_length}
 use Rattle.riff.specs.Level.{pcm_of}
-use Rattle.clip.specs.Frames.{Turn, clip_of, heard_of}
-use Rattle.clip.specs.Turns.{found_in, behind, heard_next, few_in_clip, begins, found_at}
+use Rattle.clip.specs.Frames.{clip_of}
+use Rattle.clip.specs.Turns.{heard_next, few_in_clip, begins, found_at}
 use Rattle.clip.specs.File.{frame_parts, joined, wave_of, frame_first, none_behind}
 use Rattle.scribe.specs.Next.{Next, Rest, rest_next, rest_behind, all_written}
 use Rattle.wav.proofs.put_frames.Goals as goal
@@ -30,7 +29,7 @@ put-told-requires c =
     let inside : l.i < length (clip_of s) = omega arith in
     let found = found_at _ _ _ _ _ inside (l.invariant.4 ∙ heard_next _ _ _ _ _ _ _ _ e.value e.memory_after e.output_after) in
     let left : Rest (wave_of s) l.told.bytes (pcm_of n.new.output ++ joined (frame_parts (drop (suc l.i) (clip_of s)))) =
-        subst (Rest _ _) (frame_first _ _ _ inside found.0) l.invariant.6 in
+    subst (Rest _ _) (frame_first _ _ _ inside found.0) l.invariant.6 in
     let is = c.write_samples.ensures in
     let next = rest_next (pcm_of n.new.output) _ left in
     record {
@@ -47,7 +46,7 @@ loop-i-preserved c =
     let inside : l.i < length (clip_of s) = omega arith in
     let found = found_at _ _ _ _ _ inside (l.invariant.4 ∙ heard_next _ _ _ _ _ _ _ _ e.value e.memory_after e.output_after) in
     let left : Rest (wave_of s) l.told.bytes (pcm_of n.new.output ++ joined (frame_parts (drop (suc l.i) (clip_of s)))) =
-        subst (Rest _ _) (frame_first _ _ _ inside found.0) l.invariant.6 in
+    subst (Rest _ _) (frame_first _ _ _ inside found.0) l.invariant.6 in
     let is = c.write_samples.ensures in
     let on = c.put-told.ensures ∙ ap (λ bytes. l.told.bytes + length bytes) is in (
       search rules,

@@ -1,3 +1,5 @@
+-- `window::add_products` meets its contract: `total` has the first `k` products.
+-- Assumes nothing.
 use mathlib.Core.Path.{◌≡◌, refl}
 use native.Mathlib.Omega.{arith}
 use Rattle.window.specs.Output.{taps}

@@ -1,3 +1,4 @@
+-- `window::output_at` meets its contract. Assumes nothing.
 use lib.Ieee.{neg, of_bits}
 use Rattle.window.specs.Output.{output_of}
 use Rattle.window.proofs.output_at.Goals as goal

@@ -1,3 +1,4 @@
+-- `window::outputs` meets its contract: the first `j` outputs stand. Assumes nothing.
 use native.Mathlib.Omega.{arith}
 use lib.ListN.{length-set}
 use lib.Ieee.{nan}

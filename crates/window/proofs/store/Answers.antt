@@ -1,3 +1,4 @@
+-- `window::store` meets its contract: the first `j` values are stored. Assumes nothing.
 use mathlib.Core.Path.{◌≡◌, refl}
 use native.Mathlib.Numerals.{add-one}
 use native.Mathlib.Omega.{arith}

@@ -1,3 +1,4 @@
+-- `buffer::BitIndex::byte_after` meets its contract: what is left of a byte that was begun counts as one, with no sum that could wrap.
 use mathlib.Core.Path.{◌≡◌}
 use Prim.Native.Nat.{◌+◌, ◌/◌, ◌%◌}
 use native.Mathlib.Omega.{arith}

@@ -1,4 +1,3 @@
-use Rattle.std.proofs.Common.{rules}
 use Rattle.probe.specs.Headers.{header_call_of}
 use Rattle.probe.proofs.reading.header_call.Goals as goal
 

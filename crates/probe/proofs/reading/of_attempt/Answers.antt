@@ -1,4 +1,4 @@
-use Rattle.std.proofs.Common.{sym, ap, rules}
+use Rattle.std.proofs.Common.{sym, ap}
 use Rattle.probe.specs.Headers.{by_header}
 use Rattle.probe.proofs.reading.of_attempt.Goals as goal
 

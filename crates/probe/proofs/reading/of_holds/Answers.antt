@@ -1,4 +1,3 @@
-use Rattle.std.proofs.Common.{rules}
 use Rattle.probe.proofs.reading.of_holds.Goals as goal
 
 pub returns-in-Yes : goal.returns-in-Yes

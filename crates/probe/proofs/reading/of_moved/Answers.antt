@@ -1,4 +1,3 @@
-use Rattle.std.proofs.Common.{rules}
 use Rattle.probe.proofs.reading.of_moved.Goals as goal
 
 pub returns-in-To : goal.returns-in-To

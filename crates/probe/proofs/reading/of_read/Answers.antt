@@ -1,4 +1,3 @@
-use Rattle.std.proofs.Common.{rules}
 use Rattle.probe.proofs.reading.of_read.Goals as goal
 
 pub returns-in-Value : goal.returns-in-Value

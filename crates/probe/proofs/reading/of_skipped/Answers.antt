@@ -1,4 +1,3 @@
-use Rattle.std.proofs.Common.{rules}
 use Rattle.probe.proofs.reading.of_skipped.Goals as goal
 
 pub returns-in-Bytes : goal.returns-in-Bytes

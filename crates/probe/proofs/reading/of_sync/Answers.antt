@@ -1,4 +1,3 @@
-use Rattle.std.proofs.Common.{rules}
 use Rattle.probe.proofs.reading.of_sync.Goals as goal
 
 pub returns-in-Found : goal.returns-in-Found

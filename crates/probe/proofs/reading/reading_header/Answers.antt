@@ -1,4 +1,4 @@
-use Rattle.std.proofs.Common.{ap, ◌∙◌, rules}
+use Rattle.std.proofs.Common.{ap, ◌∙◌}
 use Rattle.probe.specs.Headers.{header_call_of, stored}
 use Rattle.probe.proofs.reading.reading_header.Goals as goal
 

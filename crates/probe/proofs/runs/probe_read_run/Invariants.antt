@@ -1,4 +1,4 @@
-use Rattle.std.proofs.Common.{◌≡◌, ◌-◌, ◌≤◌, ap, ◌∙◌, add-one, arith, rules}
+use Rattle.std.proofs.Common.{◌≡◌, ◌-◌, ◌≤◌}
 use Rattle.buffer.specs.Calls.{reader_at}
 use Rattle.probe.specs.Runs.{reader_after, run_sum}
 use Rattle.probe.proofs.runs.probe_read_run.Given as goal

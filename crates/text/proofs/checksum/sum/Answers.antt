@@ -1,4 +1,4 @@
-use Rattle.std.proofs.Common.{◌≡◌, ◌-◌, ◌≤◌, length, ap, ◌∙◌, add-one, arith, rules}
+use Rattle.std.proofs.Common.{ap, ◌∙◌, add-one, arith, rules}
 use Rattle.listing.specs.Fnv.{sum_of}
 use Rattle.text.proofs.checksum.sum.Goals as goal
 

@@ -1,5 +1,4 @@
 use Rattle.text.proofs.Prime.{prime_by_parts}
-use Rattle.std.proofs.Common.{rules}
 use Rattle.text.proofs.checksum.times_prime.Goals as goal
 
 pub returns : goal.returns

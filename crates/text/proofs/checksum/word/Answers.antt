@@ -1,5 +1,4 @@
 use Rattle.listing.specs.Fnv.{word_of}
-use Rattle.std.proofs.Common.{rules}
 use Rattle.text.proofs.checksum.word.Goals as goal
 
 pub returns : goal.returns
