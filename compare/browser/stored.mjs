@@ -53,10 +53,10 @@ function numbersOf(specs, name) {
 export function compareWords(count) {
     const specs = fs.readFileSync("crates/listing/specs/Words.antt", "utf8"), part = (name) => specs.split(name)[1].split("\n\n")[0];
     const { 0: _, ...refusals } = REASONS, told = Object.entries(refusals).map((pair) => pair.join(": "));
-    const reasons = [...part("reasonOf n =").matchAll(/\(eqb n (\d+)\) \(letters "(.*?)"/g)].map(([, number, words]) => `${number}: ${words}`);
+    const reasons = [...part("reason_of n =").matchAll(/\(eqb n (\d+)\) \(letters "(.*?)"/g)].map(([, number, words]) => `${number}: ${words}`);
     count.same(told.join("; "), reasons.join("; "), "the reasons");
-    count.same(MODES.join(), [...part("modeWords n =").matchAll(/letters "(.*?)"/g)].map((found) => found[1]).join(), "the modes");
-    const numbers = fs.readFileSync("crates/audio/specs/Numbers.antt", "utf8"), last = ["ends", "callersMistake"].flatMap((name) => numbersOf(numbers, name));
+    count.same(MODES.join(), [...part("mode_words n =").matchAll(/letters "(.*?)"/g)].map((found) => found[1]).join(), "the modes");
+    const numbers = fs.readFileSync("crates/audio/specs/Numbers.antt", "utf8"), last = ["ends", "callers_mistake"].flatMap((name) => numbersOf(numbers, name));
     for (let number = 0; number <= 14; number++) count.same(goesOn(number), !last.includes(number), `whether a call may follow ${number}`);
 }
 
