@@ -197,12 +197,12 @@ export function compareCopies(count, module) {
 const WRONG = {
     "a value of the window by its last bit": "0,/store float -5.000000e-01/s//store float 0xBFE0000020000000/",
     "the factor of width 2 by its last bit": "s/0x3FE6A09E60000000/0x3FE6A09E80000000/",
-    "product and sum rounded once": "/= fmul float %r53, %r54/,/%r58 = fadd/s/%r58 = fadd float %r56, %r57/%x1 = fpext float %r53 to double\\n %x2 = fpext float %r54 to double\\n" +
-        " %x3 = fpext float %r56 to double\\n %x4 = fmul double %x1, %x2\\n %x5 = fadd double %x3, %x4\\n %r58 = fptrunc double %x5 to float/",
+    "product and sum rounded once": "/= fmul float %r54, %r55/,/%r59 = fadd/s/%r59 = fadd float %r57, %r58/%x1 = fpext float %r54 to double\\n %x2 = fpext float %r55 to double\\n" +
+        " %x3 = fpext float %r57 to double\\n %x4 = fmul double %x1, %x2\\n %x5 = fadd double %x3, %x4\\n %r59 = fptrunc double %x5 to float/",
     "a start time multiplied": "s/fdiv double/fmul double/",
     "negative samples divided toward zero": "s/ashr i32 (%r[0-9]+), 12/sdiv i32 \\1, 4096/",
-    "half a step less when a sample is scaled": "s/add nsw i32 (%r[0-9]+), 2048/add nsw i32 \\1, 2047/",
-    "the ring turned by two slots": "s/add nuw i64 (%r[0-9]+), 960/add nuw i64 \\1, 896/",
+    "half a step less when a sample is scaled": "s/add i32 (%r[0-9]+), 2048/add i32 \\1, 2047/",
+    "the ring turned by two slots": "s/add i64 (%r[0-9]+), 960/add i64 \\1, 896/",
     "streams above 1,024 bytes refused": "s/icmp ult i64 16777216,/icmp ult i64 1024,/",
 };
 
