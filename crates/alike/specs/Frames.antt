@@ -1,11 +1,9 @@
--- Demand 2: "allocation, scale factors and sample codes are proved against a definition written from ISO/IEC 11172-3 Layer II; where Rust
--- and standard part, the list says so." For every mode, mode_extension, bitrate_index and sampling_frequency, every stream and every
--- place, the port's frame is the standard's audio data over the tables with the one listed entry replaced; where no allocation is that
--- entry, over the standard's own. Assumes nothing.
+-- Where no allocation is the listed entry, the standard's audio data over the tables with that entry replaced are the standard's own.
+-- proofs/Frames has the port's frame beside it. Assumes nothing.
 use Prim.Native.Nat.{ℕ, zero, suc, ◌+◌, ◌-◌, ◌/◌, ◌≤◌, ◌<◌}
 use Rattle.std.proofs.Math.Path.{◌≡◌, refl, sym, ap₂, subst}
 use Rattle.std.proofs.Common.{ap, ◌∙◌, arith}
-use Rattle.std.specs.Prelude.{false, eqb, ℤ, replicate}
+use Rattle.std.specs.Prelude.{false, ℤ, replicate}
 use mathlib.Core.List.{List, [], ◌∷◌, ◌++◌}
 use Rattle.std.proofs.Math.ListN.{get_or}
 use Rattle.ground.specs.Tests.{by_test}
@@ -13,27 +11,12 @@ use Rattle.buffer.specs.declared.Reader.{Reader}
 use Rattle.grammar.specs.Reads.{Reads, done, ask, ◌>>=◌, Ran, ran, run}
 use Rattle.grammar.specs.Run.{run_bind}
 use Rattle.tables.specs.Standard.{Table, steps_of, sblimit}
-use Rattle.tables.specs.Differences.{number_of, differs_at}
-use Rattle.header.specs.Header.{bound_by}
-use Rattle.side.specs.Side.{cut_of}
-use Rattle.codes.specs.Frame.{frame_of}
+use Rattle.tables.specs.Differences.{differs_at}
 use Rattle.standard.specs.Header.{joint_stereo, nch, bound, allocation_table}
 use Rattle.standard.specs.AudioData.{loop, place, allocated, code, class_for, Steps, Code, none, code_at, granule, granules, each_allocated, scfsi, scalefactors, allocations, AudioFields, after_allocations, audio_data_by, audio_data_over, audio_data}
 use Rattle.alike.specs.Related.{Related, related_run, related_bind}
 use Rattle.alike.specs.Made.{placed, band, made, made_from, made_by01, samples_by01}
 use Rattle.alike.specs.Replaced.{replaced, else_the_standards}
-use Rattle.alike.specs.Bound.{the_standards_bound}
-use Rattle.alike.specs.Alike.{frame_by_bounds}
-
--- ---- the frame
-
-pub the_standards_frame : (mode extension index frequency : ℕ) → extension < 4 → (s : List ℕ) (r : Reader)
-    → let t = allocation_table mode index frequency in
-    let x = run (audio_data_over replaced mode extension index frequency) s r in
-    run (frame_of (eqb mode 3) (number_of t) (cut_of (bound_by mode extension) (sblimit t)) (sblimit t)) s r
-    ≡ ran (samples_by01 replaced mode extension index frequency x.value) x.next
-the_standards_frame mode extension index frequency l =
-    let t = allocation_table mode index frequency in frame_by_bounds t (the_standards_bound mode extension t l)
 
 -- ---- where nothing listed is allocated, the standard's own reading
 

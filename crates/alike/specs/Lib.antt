@@ -2,7 +2,6 @@ pub mod Related
 pub mod Bound
 pub mod Replaced
 pub mod Made
-pub mod Alike
 pub mod Frames
 pub mod Fields
 pub mod Pairs

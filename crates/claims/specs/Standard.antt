@@ -24,7 +24,7 @@ use Rattle.standard.specs.AudioData.{Steps, AudioFields, audio_data_over}
 use Rattle.alike.specs.Made.{samples_by01}
 use Rattle.alike.specs.Replaced.{replaced}
 use Rattle.alike.specs.Bound.{Bounds, the_standards_bound}
-use Rattle.alike.specs.Alike.{frame_by_bounds}
+use Rattle.alike.proofs.Alike.{frame_by_bounds}
 use Rattle.alike.specs.Frames.{Unlisted, unlisted_is_the_standards}
 use Rattle.alike.specs.Fields.{Says}
 use Rattle.alike.specs.Pairs.{Permits, not_barred_is_permitted}
