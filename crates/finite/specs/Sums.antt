@@ -1,17 +1,16 @@
--- The window's sums: ring values of at most 2 ^ 36 give outputs of at most 8,259,553, by the weights of the window's own entries.
+-- The window's sums: ring values of at most 2 ^ 36 give outputs of at most 8,259,553 (proofs/Sums), by the weights of the window's own entries.
 -- From 01, "From samples to sound". Assumes nothing.
 use Rattle.std.specs.Prelude.{◌≡◌, refl, Bool, true, ◌&&◌, List, [], ◌∷◌, map, T, leb, ℤ, pos, nat_abs, get_or, length, Float}
-use Rattle.std.proofs.Common.{sym, ◌∙◌, mul-one, mul_assoc, mul-pos, lt_of_lt_of_le, mul-lt-mul_of_pos_right, leb→le, lit<, lit≤, pow_pos, pow_mono}
+use Rattle.std.proofs.Common.{sym, ◌∙◌, mul-one, mul_assoc, lt_of_lt_of_le, mul-lt-mul_of_pos_right, leb→le, lit<, lit≤, pow_pos, pow_mono}
 use Rattle.std.proofs.Math.Path.{subst}
-use Prim.Native.Nat.{ℕ, zero, suc, ◌+◌, ◌-◌, ◌*◌, ◌/◌, ◌%◌, ◌^◌, ◌≤◌, ◌<◌}
+use Prim.Native.Nat.{ℕ, zero, suc, ◌+◌, ◌*◌, ◌%◌, ◌^◌, ◌≤◌, ◌<◌}
 use native.Mathlib.Omega.{arith}
-use Rattle.std.specs.Float.{nan, inf, fin, binary32}
-use Rattle.std.specs.Float.Ieee.{up, down, mul, div, of_int, unlike}
-use Rattle.std.specs.Float.Ieee.Fits.{down_pos}
+use Rattle.std.specs.Float.{nan}
+use Rattle.std.specs.Float.Ieee.{mul, of_int}
 use Rattle.ground.specs.Upto.{and_left, and_right, upto, below}
 use Rattle.window.specs.Window.{window_at, window_list, half, standard_d}
-use Rattle.window.specs.Output.{Place, taps, output_of, nought, divisor}
-use Rattle.finite.specs.Within.{Within, Factor, factorb, factor_by, Rep, round_within, within_up, add_within, factor_within}
+use Rattle.window.specs.Output.{taps}
+use Rattle.finite.specs.Within.{Within, Factor, factorb, factor_by, Rep, add_within, factor_within}
 
 -- ---- the window's entries, each a whole number of halves
 
@@ -42,7 +41,7 @@ unfolding window_at window_list weight_at
 entry_factor i h = halves_at standard_d halves_test i (omega (arith, count))
 
 -- the weight of n products
-weight : ℕ → ℕ → ℕ
+pub weight : ℕ → ℕ → ℕ
 weight w zero = 0
 weight w (suc k) = weight w k + weight_at ((w + 64 * k) % 512)
 
@@ -54,7 +53,7 @@ all_light : T (upto light 544)
 unfolding light weight weight_at standard_d
 all_light = tt
 
-sixteen : (w : ℕ) → w < 544 → weight w 8 + weight (w + 32) 8 ≤ 262144
+pub sixteen : (w : ℕ) → w < 544 → weight w 8 + weight (w + 32) 8 ≤ 262144
 unfolding light
 sixteen w h = leb→le _ _ (below light 544 all_light w h)
 
@@ -71,21 +70,14 @@ rep q h =
     }
 
 -- the division by -65 * 2 ^ 24
-room : (a d : ℕ) → a ≤ 2 ^ 53 * d → a * 1 ≤ 8259553 * (1090519040 * d)
+pub room : (a d : ℕ) → a ≤ 2 ^ 53 * d → a * 1 ≤ 8259553 * (1090519040 * d)
 room a d h = omega arith
 
-fits : Rep 8259553
+pub fits : Rep 8259553
 fits = record { q = 8259553; j = 149; small = lit< tt; fine = lit< tt; is = refl }
 
-div_within : (x : Float) → Within (2 ^ 53) x → Within 8259553 (div binary32 x divisor)
-unfolding div
-div_within nan h = absurd h
-div_within (inf s) h = absurd h
-div_within (fin s m e) h =
-    round_within (unlike s true) (m * up e * 1) (1090519040 * down e) 8259553 (mul-pos (lit< tt) (down_pos e)) (room (m * up e) (down e) h) fits
-
 module _ (ring : List Float) (hushed : (i : ℕ) → i < 1024 → Within (2 ^ 36) (get_or ring i nan)) where
-  taps_within : (w r : ℕ) → r < 128 → (k : ℕ) → k ≤ 8 → (a : ℕ) (x : Float) → Within (a * 2 ^ 35) x → a + weight w k < 2 ^ 24
+  pub taps_within : (w r : ℕ) → r < 128 → (k : ℕ) → k ≤ 8 → (a : ℕ) (x : Float) → Within (a * 2 ^ 35) x → a + weight w k < 2 ^ 24
       → Within ((a + weight w k) * 2 ^ 35) (taps ring w r k x)
   unfolding taps weight
   taps_within w r hr zero hk a x h l =
@@ -99,15 +91,3 @@ module _ (ring : List Float) (hushed : (i : ℕ) → i < 1024 → Within (2 ^ 36
       (hushed (r + 128 * k) (omega arith)) (omega arith) (rep (weight_at j) (omega arith)) in
       add_within ((a + weight w k) * 2 ^ 35) (weight_at j * 2 ^ 35) ((a + (weight w k + weight_at j)) * 2 ^ 35) _ _ before product (omega arith)
       (rep (a + (weight w k + weight_at j)) (omega arith))
-
-  pub output_of_within : (p j : ℕ) → Place p → j < 32 → Within 8259553 (output_of ring p j)
-  unfolding output_of
-  output_of_within p j hp hj =
-      let w = 512 - p / 2 + j in
-      let s = sixteen w (omega arith) in
-      let v : 544 - p / 2 + j ≡ w + 32 = omega arith in
-      let first = taps_within w (p % 128 / 2 + j) (omega arith) 8 (lit≤ tt) 0 nought (lit≤ tt) (omega arith) in
-      rw v
-      (div_within _
-      (within_up _ _ (taps ring (w + 32) (96 - p % 128 / 2 + j) 8 (taps ring w (p % 128 / 2 + j) 8 nought)) (omega arith)
-      (taps_within (w + 32) (96 - p % 128 / 2 + j) (omega arith) 8 (lit≤ tt) (0 + weight w 8) _ first (omega arith))))

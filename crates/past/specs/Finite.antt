@@ -16,7 +16,8 @@ use Rattle.synthesis.specs.Output.{output_at}
 use Rattle.finite.specs.Within.{Within}
 use Rattle.finite.specs.Halving.{Quiet}
 use Rattle.finite.specs.Each.{Each, InBothRings, each_cleared}
-use Rattle.finite.specs.Run.{Calm, calm_after, output_within}
+use Rattle.finite.specs.Run.{Calm, calm_after}
+use Rattle.finite.proofs.Run.{output_within}
 use Rattle.frame.specs.Frame.{codes_in, granules_at, slots_of, frame_memory}
 use Rattle.frame.specs.FrameLaws.{granule_always}
 use Rattle.audio.specs.Calls.{framed_memory, blank}

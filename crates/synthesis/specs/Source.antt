@@ -7,9 +7,11 @@ use Rattle.std.proofs.Math.Path.{refl, ap}
 use Rattle.std.proofs.Common.{sym, ◌∙◌}
 use native.Mathlib.Omega.{arith}
 use Rattle.std.proofs.Math.ListN.{length}
-use Rattle.transform.specs.Source.{idct36, source_is_idct}
+use Rattle.transform.specs.Source.{idct36}
+use Rattle.transform.proofs.Source.{source_is_idct}
 use Rattle.window.specs.Output.{Place, stores}
-use Rattle.window.specs.Source.{sounded, source_is_output}
+use Rattle.window.specs.Source.{sounded}
+use Rattle.window.proofs.Source.{source_is_output}
 use Rattle.synthesis.specs.Slots.{place_before, position_after, put, slot_ring, ring_after, outputs_at, interleaved}
 use Rattle.synthesis.specs.Slots.{memory_length, ring_of, memory_after, output_after}
 use Rattle.synthesis.specs.Ring.{place_after, ring_length}

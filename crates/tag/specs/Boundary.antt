@@ -138,22 +138,12 @@ pub record TagSamples16 (output : List Float) (samples : List ℕ) (number : ℕ
 
 -- ---- call after call
 
--- what one call left in the arrays, the next one reads
+-- what one call left in the arrays, the next one reads; so an opening and then a decode call are in proofs/Boundary
 pub read_back : {k : ℕ} {a : Audio} {places counts : List ℕ} {time : List Float} → HeldIn k a places counts time → state_of places counts time ≡ a
 read_back {k} {a} {places} {counts} {time} h =
     ap (λ (xs : List ℕ). state_of xs counts time) h.places_hold
     ∙ ap (λ (xs : List ℕ). state_of (places_of k a) xs time) h.counts_hold
     ∙ ap (λ (xs : List Float). state_of (places_of k a) (counts_of a) xs) h.time_holds
-
--- so tag_open and then tag_decode leave what `new` and then `decode` leave; and so on, from any state that a call has left
-pub open_then_decode : (r : Reading) (s : List ℕ) (memory output : List Float) {number : ℕ} {places counts : List ℕ} {time : List Float}
-    → TagOpen (open_of r s memory) number places counts time
-    → {number' : ℕ} {memory' output' : List Float} {places' counts' : List ℕ} {time' start : List Float} {bits : List ℕ}
-    → TagDecode s (open_memory s memory) output (state_of places counts time) number' memory' output' places' counts' time' start bits
-    → TagDecode s (open_memory s memory) output (open_of r s memory).state number' memory' output' places' counts' time' start bits
-open_then_decode r s memory output told {number'} {memory'} {output'} {places'} {counts'} {time'} {start} {bits} decodes =
-    subst (λ (a : Audio). TagDecode s (open_memory s memory) output a number' memory' output' places' counts' time' start bits)
-    (read_back told.state_is) decodes
 
 -- ---- the order of the places and counts, and their units
 

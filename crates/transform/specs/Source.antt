@@ -1,19 +1,19 @@
--- The source's `idct36` (native32emu, mpeg/audio.rs), line by line and in its order, to be held beside the Rust: `source-is-idct` says that
--- it writes `idct`, for all samples. So nobody need believe the halving. Read it so:
+-- The source's `idct36` (native32emu, mpeg/audio.rs), line by line and in its order, to be held beside the Rust: `source-is-idct`
+-- (proofs/Source) says that it writes `idct`, for all samples. So nobody need believe the halving. Read it so:
 --   s[i][ss] as f32             g i
 --   x + y, x - y, x * y, -x     x ⊕ y, x ⊖ y, x ⊗ y (each rounded to f32), neg x; `t03 += t15` is written out
 --   0.53104259109               53104259109 e- 11: the literal with its point moved, and of that number the nearest f32, as Rust has it
 --   let mut t01 = x; t01 = x;   a `let`, which hides the value that t01 had
 --   d[dp + 48] = x;             48 ≔ x
 -- Assumes nothing.
-use Rattle.std.specs.Prelude.{ℕ, ◌+◌, ◌^◌, ◌≤◌, ◌<◌, ◌≡◌, refl, Bool, true, false, cond, List, [], ◌∷◌, ◌++◌, T, eqb, ltb, ℤ, pos, length, get_or, take, drop, set, Float}
-use Rattle.std.proofs.Common.{sym, ap, ap₂, ◌∙◌, arith, eqb-true, ltb→lt, length-set, length-drop, take-append-drop, length-take-le, get_or-take, get_or-drop, get_or-set_same, get_or-set_other, drop-set-lt, drop-drop}
+use Rattle.std.specs.Prelude.{ℕ, ◌+◌, ◌^◌, ◌≤◌, ◌<◌, ◌≡◌, refl, Bool, true, false, cond, List, [], ◌∷◌, T, eqb, ltb, ℤ, pos, length, get_or, take, drop, set, Float}
+use Rattle.std.proofs.Common.{ap, ◌∙◌, arith, eqb-true, ltb→lt, length-set, get_or-set_same, get_or-set_other, drop-set-lt}
 use Rattle.std.proofs.lemmas.Bool.{eqb-false}
 use Rattle.std.proofs.lemmas.List.{take-set-le}
 use Rattle.std.specs.Float.{nan, binary32}
 use Rattle.std.specs.Float.Ieee.{add, sub, mul, neg, round, of_bits, of_int}
 use Rattle.ground.specs.Entries.{every}
-use Rattle.ground.specs.Table.{table, is_table}
+use Rattle.ground.specs.Table.{table}
 use Rattle.ground.specs.Upto.{and_left, and_right}
 use Rattle.transform.specs.Transform.{floats, idct, transform, slot_of, sums_of, differences_of, halving_factors, woven_of}
 
@@ -34,10 +34,10 @@ x ⊗ y = mul binary32 x y
 abbrev ◌e-◌ : ℕ → ℕ → Float
 m e- k = round binary32 false m (10 ^ k)
 
-data Store : Type 0 where
+pub data Store : Type 0 where
   ◌≔◌ : ℕ → Float → Store
 
-lines : (ℕ → Float) → List Store
+pub lines : (ℕ → Float) → List Store
 lines g =
     let t01 = g 0 ⊕ g 31 in
     let t02 = (g 0 ⊖ g 31) ⊗ 500602998235 e- 12 in
@@ -315,16 +315,16 @@ lines g =
     ∷ []
 
 -- the stores made one after the other
-abbrev written : List Float → ℕ → List Store → List Float
+abbrev pub written : List Float → ℕ → List Store → List Float
 written d dp [] = d
 written d dp ((k ≔ x) ∷ more) = written (set d (dp + k) x) dp more
 
 -- let g = |i: usize| s[i][ss] as f32;
-abbrev g : List ℤ → ℕ → Float
+abbrev pub g : List ℤ → ℕ → Float
 g samples i = of_int binary32 (get_or samples i (pos 0))
 
 -- `idct36(s, ss, d, dp)`: what d is after it, the samples being s[0][ss], s[1][ss], ..
-pub idct36 : List ℤ → List Float → ℕ → List Float
+unfoldable pub idct36 : List ℤ → List Float → ℕ → List Float
 idct36 samples d dp = written d dp (lines (g samples))
 
 -- ---- what stands where after stores below dp + 64
@@ -333,20 +333,20 @@ abbrev near : Store → Bool
 near (k ≔ x) = ltb k 64
 
 -- at dp + i: the last value stored there, or as it was
-abbrev last : List Store → ℕ → Float → Float
+abbrev pub last : List Store → ℕ → Float → Float
 last [] i x = x
 last ((k ≔ v) ∷ more) i x = last more i (cond (eqb k i) v x)
 
 module _ (dp : ℕ) where
-  written_length : (stores : List Store) (d : List Float) → length (written d dp stores) ≡ length d
+  pub written_length : (stores : List Store) (d : List Float) → length (written d dp stores) ≡ length d
   written_length [] d = refl
   written_length ((k ≔ x) ∷ more) d = written_length more (set d (dp + k) x) ∙ length-set d (dp + k) x
 
-  before : (stores : List Store) (d : List Float) → take dp (written d dp stores) ≡ take dp d
+  pub before : (stores : List Store) (d : List Float) → take dp (written d dp stores) ≡ take dp d
   before [] d = refl
   before ((k ≔ x) ∷ more) d = before more (set d (dp + k) x) ∙ take-set-le dp d (dp + k) x (omega arith)
 
-  behind : (stores : List Store) → T (every near stores) → (d : List Float) → drop (dp + 64) (written d dp stores) ≡ drop (dp + 64) d
+  pub behind : (stores : List Store) → T (every near stores) → (d : List Float) → drop (dp + 64) (written d dp stores) ≡ drop (dp + 64) d
   behind [] t d = refl
   behind ((k ≔ x) ∷ more) t d =
       let low : k < 64 = ltb→lt k 64 (and_left (ltb k 64) (every near more) t) in
@@ -357,7 +357,7 @@ module _ (dp : ℕ) where
   stored k i x d room true e = rw (← eqb-true k i e) (get_or-set_same d (dp + k) x nan room)
   stored k i x d room false e = get_or-set_other d (dp + k) (dp + i) x nan (λ same. eqb-false k i e (omega arith))
 
-  within : (stores : List Store) → T (every near stores) → (d : List Float) → dp + 64 ≤ length d → (i : ℕ)
+  pub within : (stores : List Store) → T (every near stores) → (d : List Float) → dp + 64 ≤ length d → (i : ℕ)
       → get_or (written d dp stores) (dp + i) nan ≡ last stores i (get_or d (dp + i) nan)
   within [] t d room i = refl
   within ((k ≔ x) ∷ more) t d room i =
@@ -368,35 +368,10 @@ module _ (dp : ℕ) where
 -- ---- they are `idct`
 
 -- whatever stood there before
-same_values : (samples : List ℤ) → length samples ≡ 32 → (was : ℕ → Float) → table 64 (λ i. last (lines (g samples)) i (was i)) ≡ idct samples
+pub same_values : (samples : List ℤ) → length samples ≡ 32 → (was : ℕ → Float) → table 64 (λ i. last (lines (g samples)) i (was i)) ≡ idct samples
 unfolding lines table idct slot_of transform woven_of sums_of differences_of halving_factors floats round of_bits
 same_values samples e was = rw e refl
 
-all_near : (f : ℕ → Float) → T (every near (lines f))
+pub all_near : (f : ℕ → Float) → T (every near (lines f))
 unfolding lines
 all_near f = tt
-
--- the 64 values of `idct` stand at dp, and around them d is as it was
-pub source_is_idct : (samples : List ℤ) → length samples ≡ 32 → (d : List Float) (dp : ℕ) → dp + 64 ≤ length d
-    → idct36 samples d dp ≡ take dp d ++ (idct samples ++ drop 64 (drop dp d))
-unfolding idct36
-source_is_idct samples e d dp room =
-    sym (take-append-drop dp w)
-    ∙ ap₂ (λ a b. a ++ b) (before dp stores d)
-    (sym (take-append-drop 64 (drop dp w)) ∙ ap₂ (λ a b. a ++ b) middle rest)
-  where
-    stores : List Store
-    stores = lines (g samples)
-
-    w : List Float
-    w = written d dp stores
-
-    rest : drop 64 (drop dp w) ≡ drop 64 (drop dp d)
-    rest = drop-drop 64 dp w ∙ behind dp stores (all_near (g samples)) d ∙ sym (drop-drop 64 dp d)
-
-    middle : take 64 (drop dp w) ≡ idct samples
-    middle =
-        is_table nan 64 (λ i. last stores i (get_or d (dp + i) nan)) (take 64 (drop dp w))
-        (length-take-le 64 (drop dp w) (omega (arith, length-drop dp w, written_length dp stores d)))
-        (λ i h. get_or-take 64 (drop dp w) i nan h ∙ get_or-drop dp w i nan ∙ within dp stores (all_near (g samples)) d room i)
-        ∙ same_values samples e (λ i. get_or d (dp + i) nan)

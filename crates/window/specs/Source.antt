@@ -1,7 +1,7 @@
 -- The source's window loops (native32emu, mpeg/audio.rs, `decode_frame`), line by line and in its order, to be held beside the Rust:
--- `source-is-output` says that they store `outputOf`, for every ring, ring position and channel. Read it so: `v` is the channel's ring, an
--- assignment to `u`, `d_index` or `v_index` is a field of the next `Sums`, a store is `set`, a shift left or right by 1 is * 2 or / 2. At a
--- ring position no difference here is below 0, where ℕ's `-` would not be the Rust's. Assumes nothing.
+-- `source-is-output` (proofs/Source) says that they store `outputOf`, for every ring, ring position and channel. Read it so: `v` is the
+-- channel's ring, an assignment to `u`, `d_index` or `v_index` is a field of the next `Sums`, a store is `set`, a shift left or right by 1
+-- is * 2 or / 2. At a ring position no difference here is below 0, where ℕ's `-` would not be the Rust's. Assumes nothing.
 use Prim.Native.Nat.{ℕ, zero, suc, ◌+◌, ◌-◌, ◌*◌, ◌/◌, ◌%◌, ◌≤◌, ◌<◌}
 use Rattle.std.specs.Prelude.{◌≡◌, false, cond, List, ◌++◌, ltb, pos, length, set, replicate, Float}
 use Rattle.std.proofs.Math.Path.{refl, ap, ap₂}
@@ -14,14 +14,14 @@ use Rattle.std.specs.Float.{nan, fin}
 use Rattle.std.specs.Float.Ieee.{binary32, add, mul, div, neg, round, to_bits}
 use Rattle.ground.specs.Stores.{set_either}
 use Rattle.window.specs.Window.{window_list, window_at, standard_d}
-use Rattle.window.specs.Output.{Place, nought, divisor, taps, output_of, stores}
+use Rattle.window.specs.Output.{Place, nought, divisor, taps}
 
 -- self.d: let mut d = vec![0.0f32; 1024]; d[..512].copy_from_slice(&SYNTHESIS_WINDOW); d[512..].copy_from_slice(&SYNTHESIS_WINDOW);
 abbrev d : List Float
 d = window_list ++ window_list
 
-record Sums : Type 0 where
-  u : List Float
+pub record Sums : Type 0 where
+  pub u : List Float
   d_index : ℕ
   v_index : ℕ
 
@@ -55,27 +55,27 @@ module _ (v : List Float) where
   loop (suc n) s = cond (ltb s.v_index 1024) (loop n (turn s)) s
 
   -- the two loops, each of which ends by its test, after eight turns (`eight-turns`)
-  summed : ℕ → Sums
+  pub summed : ℕ → Sums
   summed v_pos = loop 1024 (between (loop 1024 (begun v_pos)))
 
 -- for j in 0..n { self.interleaved[((out_pos + j) << 1) + ch] = self.u[j] / -1_090_519_040.0f32; }
-abbrev divided : List Float → List Float → ℕ → ℕ → ℕ → List Float
+abbrev pub divided : List Float → List Float → ℕ → ℕ → ℕ → List Float
 divided u interleaved out_pos ch zero = interleaved
 divided u interleaved out_pos ch (suc j) =
     set (divided u interleaved out_pos ch j) ((out_pos + j) * 2 + ch) (div binary32 (get_or u j nan) (neg (round binary32 false 1090519040 1)))
 
 -- all of these lines, for one channel: what `interleaved` is after them
-pub sounded : List Float → ℕ → List Float → ℕ → ℕ → List Float
+unfoldable pub sounded : List Float → ℕ → List Float → ℕ → ℕ → List Float
 sounded v v_pos interleaved out_pos ch = divided (summed v v_pos).u interleaved out_pos ch 32
 
 -- ---- the loops, turn by turn
 
 -- u is f, and the indices are row and start
-record Stands (f : ℕ → Float) (row start : ℕ) (s : Sums) : Type 0 where
+pub record Stands (f : ℕ → Float) (row start : ℕ) (s : Sums) : Type 0 where
   full : length s.u ≡ 32
   at_d : s.d_index ≡ row
   at_v : s.v_index ≡ start
-  holds : (j : ℕ) → j < 32 → get_or s.u j nan ≡ f j
+  pub holds : (j : ℕ) → j < 32 → get_or s.u j nan ≡ f j
 
 module _ (v : List Float) where
   abbrev product : ℕ → ℕ → ℕ → Float
@@ -171,7 +171,7 @@ twice_at i h = go (dec_lt i 512)
         ap (λ (k : ℕ). get_or d k nan) e ∙ get_or-append-add window_list window_list (i % 512) nan
 
 module _ (v : List Float) (f : ℕ → Float) (row start : ℕ) (low : start < 128) (j : ℕ) (inside : row + j < 576) (x : Float) (first : f j ≡ x) where
-  added_is_taps : (k : ℕ) → k ≤ 8 → added v f row start low k j ≡ taps v (row + j) (start + j) k x
+  pub added_is_taps : (k : ℕ) → k ≤ 8 → added v f row start low k j ≡ taps v (row + j) (start + j) k x
   unfolding taps
   added_is_taps zero l = first
   added_is_taps (suc k) l =
@@ -180,19 +180,19 @@ module _ (v : List Float) (f : ℕ → Float) (row start : ℕ) (low : start < 1
       ap₂ (add binary32) (added_is_taps k (omega arith))
       (ap₂ (mul binary32) (ap (λ (i : ℕ). get_or d i nan) w ∙ twice_at (row + j + 64 * k) (omega arith)) (ap (λ (i : ℕ). get_or v i nan) r))
 
--- ---- and what they store is `outputOf`
+-- ---- what the loops leave
 
 module _ (v : List Float) {v_pos : ℕ} (place : Place v_pos) where
-  low : v_pos % 128 / 2 < 128
+  pub low : v_pos % 128 / 2 < 128
   low = omega arith
 
-  low' : 96 - v_pos % 128 / 2 < 128
+  pub low' : 96 - v_pos % 128 / 2 < 128
   low' = omega arith
 
-  abbrev first : ℕ → Float
+  abbrev pub first : ℕ → Float
   first = added v (λ _. nought) (512 - v_pos / 2) (v_pos % 128 / 2) low 8
 
-  abbrev second : ℕ → Float
+  abbrev pub second : ℕ → Float
   second = added v first (544 - v_pos / 2) (96 - v_pos % 128 / 2) low' 8
 
   first_loop : Stands first (512 - v_pos / 2 + 64 * 8) (v_pos % 128 / 2 + 128 * 8) (loop v 1024 (begun v_pos))
@@ -200,34 +200,12 @@ module _ (v : List Float) {v_pos : ℕ} (place : Place v_pos) where
       eight_turns v (λ _. nought) (512 - v_pos / 2) (v_pos % 128 / 2) low 1024 0 (begun v_pos) (omega arith) (omega arith)
       (record { full = refl; at_d = omega arith; at_v = omega arith; holds = λ j b. get_or-replicate 32 j nought nan b })
 
-  second_loop : Stands second (544 - v_pos / 2 + 64 * 8) (96 - v_pos % 128 / 2 + 128 * 8) (summed v v_pos)
+  pub second_loop : Stands second (544 - v_pos / 2 + 64 * 8) (96 - v_pos % 128 / 2 + 128 * 8) (summed v v_pos)
   unfolding summed
   second_loop =
       let h = first_loop in
       eight_turns v first (544 - v_pos / 2) (96 - v_pos % 128 / 2) low' 1024 0 (between (loop v 1024 (begun v_pos))) (omega arith) (omega arith)
       (record { full = h.full; at_d = omega (arith, h.at_d); at_v = omega (arith, h.at_v); holds = h.holds })
-
-  output_at : (j : ℕ) → j < 32 → div binary32 (get_or (summed v v_pos).u j nan) (neg (round binary32 false 1090519040 1)) ≡ output_of v v_pos j
-  unfolding output_of neg round
-  output_at j b =
-      ap (λ (x : Float). div binary32 x divisor)
-      (second_loop.holds j b
-      ∙ added_is_taps v first (544 - v_pos / 2) (96 - v_pos % 128 / 2) low' j (omega arith) _
-      (added_is_taps v (λ _. nought) (512 - v_pos / 2) (v_pos % 128 / 2) low j (omega arith) nought refl 8 (omega arith)) 8 (omega arith))
-
-  module _ (interleaved : List Float) (out_pos ch : ℕ) where
-    divided_is_stores : (n : ℕ) → n ≤ 32
-        → divided (summed v v_pos).u interleaved out_pos ch n ≡ stores interleaved (2 * out_pos + ch) (output_of v v_pos) n
-    unfolding stores
-    divided_is_stores zero l = refl
-    divided_is_stores (suc j) l =
-        let e : (out_pos + j) * 2 + ch ≡ 2 * out_pos + ch + 2 * j = omega arith in
-        rw (e, output_at j l, divided_is_stores j (omega arith))
-
-    -- for every ring, ring position, place and channel
-    pub source_is_output : sounded v v_pos interleaved out_pos ch ≡ stores interleaved (2 * out_pos + ch) (output_of v v_pos) 32
-    unfolding sounded
-    source_is_output = divided_is_stores 32 (omega arith)
 
 -- the divisor's bits, as the Rust prints them
 pub divisor_bits : to_bits binary32 divisor ≡ 0xce820000
