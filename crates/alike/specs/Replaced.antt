@@ -4,7 +4,8 @@ use Rattle.std.specs.Prelude.{ℕ, zero, suc, ◌^◌, ◌<◌, ◌≡◌, true,
 use Rattle.std.proofs.Common.{sym, subst, arith, eqb-true, ltb-true}
 use Rattle.ground.specs.Tests.{by_test, both}
 use Rattle.tables.specs.Standard.{Table, B2a, B2b, B2c, B2d, row_of, sblimit, steps_of}
-use Rattle.tables.specs.Differences.{differs_at, taken, differs_only}
+use Rattle.tables.specs.Differences.{differs_at, taken}
+use Rattle.tables.proofs.Differences.{differs_only}
 use Rattle.standard.specs.AudioData.{Steps}
 
 -- the entries of the list

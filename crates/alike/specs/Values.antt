@@ -9,7 +9,8 @@ use Rattle.samples.specs.Sample.{scale_of, adj_of, centred_by, factor_of}
 use Rattle.samples.specs.Scales.{whole_of, scale_is, adj_is}
 use Rattle.samples.specs.Nearest.{factors_are_nearest, factor_17}
 use Rattle.standard.specs.Fractions.{Same, ◌over◌, times, above, under, sub_is, sub_same, sub_neg, sub_mul, sub_injective}
-use Rattle.standard.specs.Values.{requantised, requantisation_of, requantised_is, not_above_factor, above_factor}
+use Rattle.standard.specs.Values.{requantised, requantisation_of, not_above_factor, above_factor}
+use Rattle.standard.proofs.Values.{requantised_is}
 
 -- the sample before its scale factor, of quantiser q
 abbrev pub val_of : ℕ → ℕ → ℤ

@@ -1,2 +1,3 @@
 pub mod Quantisers
 pub mod Stored
+pub mod Values

@@ -1,18 +1,18 @@
 -- Bounds on what a frame holds, whatever the stream: codes that their quantiser's fields can hold, and 192 samples of magnitude
--- at most 104,848 in each granule, so that each is an `f32` exactly; from the limit up all is 0.
+-- at most 104,848 in each granule, so that each is an `f32` exactly; from the limit up all is 0 (proofs/Values).
 -- Assumes nothing.
 use Prim.Native.Nat.{ℕ, zero, suc, ◌+◌, ◌-◌, ◌*◌, ◌/◌, ◌%◌, ◌^◌, ◌≤◌, ◌<◌}
 use Rattle.std.specs.Prelude.{◌≡◌, Bool, true, false, ℤ, pos, nat_abs, length, get_or, set, replicate}
 use Rattle.std.proofs.Common.{◌∙◌, mod-lt, le_trans, div-mul-le_self, le-div_iff_mul-le, arith, lit≤, length-set}
 use mathlib.Core.List.{List, [], ◌∷◌, ◌++◌}
 use Rattle.std.proofs.lemmas.List.{length-replicate}
-use Rattle.std.proofs.Math.Seq.{get_or-set_other}
 use Rattle.ground.specs.Tests.{by_test}
 use Rattle.ground.specs.Entries.{each_after_set, copies_at}
-use Rattle.grammar.specs.Values.{Always, always_bind, anything, always_anything}
+use Rattle.grammar.specs.Values.{Always, always_bind}
 use Rattle.tables.specs.Standard.{levels_of, code_bits_of, grouped_of}
 use Rattle.tables.specs.Laws.{sized}
-use Rattle.samples.specs.Bounds.{most_of, quantiser_range, sample_small}
+use Rattle.samples.specs.Bounds.{most_of, quantiser_range}
+use Rattle.samples.proofs.Bounds.{sample_small}
 use Rattle.samples.specs.declared.Three.{Three}
 use Rattle.ground.specs.Stores.{three}
 use Rattle.side.specs.Side.{Side, side_of}
@@ -104,41 +104,6 @@ module _ (side : Side) (r : SideInRange side) (part : ℕ) where
 unfoldable pub Silent : ℕ → List ℤ → Type 0
 Silent limit xs = (i : ℕ) → limit ≤ i % 32 → get_or xs i (pos 0) ≡ pos 0
 
-module _ (limit : ℕ) where
-  set_silent : (xs : List ℤ) (k : ℕ) (v : ℤ) → k % 32 < limit → Silent limit xs → Silent limit (set xs k v)
-  unfolding Silent
-  set_silent xs k v h p i l = get_or-set_other xs k i v (pos 0) (λ e. omega arith) ∙ p i l
-
-  three_silent : (place : ℕ) (x y z : ℤ) (xs : List ℤ) → place % 32 < limit → Silent limit xs → Silent limit (three place x y z xs)
-  three_silent place x y z xs h p =
-      set_silent _ (place + 128) z (omega arith) (set_silent _ (place + 64) y (omega arith) (set_silent xs place x h p))
-
-  samples_silent : (q factor place : ℕ) → place % 32 < limit → (xs : List ℤ) → Silent limit xs → Always (Silent limit) (three_samples_of q factor place xs)
-  unfolding three_samples_of Always
-  samples_silent q factor place h xs p =
-      always_bind anything (Silent limit) (codes_of q) _ (always_anything (codes_of q)) (λ c _. three_silent place _ _ _ xs h p)
-
-  place_silent : (side : Side) (part place : ℕ) → place % 32 < limit → (xs : List ℤ) → Silent limit xs → Always (Silent limit) (place_of side part place xs)
-  unfolding place_of
-  place_silent side part place h =
-      allocated_always (Silent limit) side.quant (λ k. three_samples_of (get_or side.quant k 0) (get_or side.factor (part * 64 + k) 0) k) place
-      (λ _. samples_silent (get_or side.quant place 0) (get_or side.factor (part * 64 + place) 0) place h)
-
-  band_silent : (side : Side) (part bound sb : ℕ) → sb < limit → (xs : List ℤ) → Silent limit xs → Always (Silent limit) (sample_band_of side part bound sb xs)
-  unfolding sample_band_of copied
-  band_silent side part bound sb h =
-      pair_always (Silent limit) _ _ _ _ (place_silent side part sb (omega arith)) (place_silent side part (sb + 32) (omega arith))
-      (λ xs p. three_silent (sb + 32) _ _ _ xs (omega arith) p)
-
-  zeros_silent : (n : ℕ) → Silent limit (replicate n (pos 0))
-  unfolding Silent
-  zeros_silent n i l = copies_at (pos 0) n i
-
-  pub granule_silent : (side : Side) (part bound : ℕ) → Always (Silent limit) (granule_of side part bound limit)
-  unfolding granule_of
-  granule_silent side part bound =
-      bands_always (Silent limit) (sample_band_of side part bound) limit (band_silent side part bound) limit (omega arith) _ (zeros_silent 192)
-
 -- each granule of a list
 unfoldable pub All : (List ℤ → Type 0) → List (List ℤ) → Type 0
 All P [] = Unit
@@ -150,7 +115,7 @@ module _ (P : List ℤ → Type 0) where
   one_more [] x p q = (q, tt)
   one_more (y ∷ ys) x p q = (p.0, one_more ys x p.1 q)
 
-  granules_all : (side : Side) (bound limit : ℕ) → ((part : ℕ) → Always P (granule_of side part bound limit)) → (n : ℕ) →
+  pub granules_all : (side : Side) (bound limit : ℕ) → ((part : ℕ) → Always P (granule_of side part bound limit)) → (n : ℕ) →
       Always (All P) (granules_of side bound limit n)
   unfolding granules_of Always All
   granules_all side bound limit h zero = tt
@@ -164,9 +129,3 @@ unfolding frame_of
 frame_bounded mono table bound limit =
     always_bind SideInRange (All Bounded) (side_of mono table bound limit) _ (side_ranged mono table bound limit)
     (λ side r. granules_all Bounded side bound limit (λ part. granule_bounded side r part bound limit) 12)
-
-pub frame_silent : (mono : Bool) (table bound limit : ℕ) → Always (All (Silent limit)) (frame_of mono table bound limit)
-unfolding frame_of
-frame_silent mono table bound limit =
-    always_bind anything (All (Silent limit)) (side_of mono table bound limit) _ (always_anything (side_of mono table bound limit))
-    (λ side _. granules_all (Silent limit) side bound limit (λ part. granule_silent limit side part bound) 12)

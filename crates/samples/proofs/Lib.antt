@@ -1,2 +1,3 @@
 pub mod Quantisers
 pub mod Shift
+pub mod Bounds

@@ -1,13 +1,12 @@
 -- How large a sample can be, whatever the code and the scale factor: at most 104,848, so that no step leaves an `i32`
--- and every sample is an `f32` exactly. The largest comes from the third digit 12 of nine levels at scale factor 0.
+-- and every sample is an `f32` exactly (proofs/Bounds). The largest comes from the third digit 12 of nine levels at scale factor 0.
 -- Assumes nothing.
-use Rattle.std.specs.Prelude.{ℕ, suc, ◌+◌, ◌-◌, ◌*◌, ◌/◌, ◌%◌, ◌^◌, ◌≤◌, ◌<◌, max, ◌≡◌, Bool, cond, ◌&&◌, ◌||◌, T, eqb, ltb, leb, ℤ, pos, negsuc, nat_abs, ◌+ℤ◌, ◌-ℤ◌, ◌*ℤ◌}
-use Rattle.std.proofs.Common.{sym, ap, ◌∙◌, mul-le-mul, mul-le-mul_right, le_trans, div-add-mod', mul-add, mul_assoc, arith, eqb→eq, leb→le, ltb-true}
-use Rattle.ground.specs.Tests.{by_test}
+use Rattle.std.specs.Prelude.{ℕ, ◌+◌, ◌-◌, ◌*◌, ◌/◌, ◌^◌, ◌≤◌, ◌<◌, max, ◌≡◌, Bool, cond, ◌&&◌, ◌||◌, T, eqb, leb, pos, nat_abs, ◌-ℤ◌}
+use Rattle.std.proofs.Common.{mul-le-mul_right, le_trans, arith, eqb→eq, leb→le}
 use Rattle.ground.specs.Upto.{below, and_left, and_right, or_left}
-use Rattle.ground.specs.Magnitude.{abs_mul, abs_add, abs_sub}
+use Rattle.ground.specs.Magnitude.{abs_mul, abs_sub}
 use Rattle.tables.specs.Standard.{classes, quantisation_of, levels_of, code_bits_of, grouped_of}
-use Rattle.samples.specs.Sample.{floor_by, scale_of, adj_of, centred_by, scaled_by, sample_of, factor_of}
+use Rattle.samples.specs.Sample.{scale_of, adj_of, centred_by, factor_of}
 
 -- the largest code or digit that a quantiser's fields can hold
 unfoldable pub most_of : ℕ → ℕ
@@ -64,37 +63,6 @@ centred_small q code r h =
     let m = max a (most_of q - a) in
     let d : nat_abs (pos a -ℤ pos code) ≤ m = abs_sub a code m (omega arith) (omega arith) in
     rw abs_mul (le_trans (mul-le-mul_right (scale_of (levels_of q)) d) r.span)
-
--- a quotient rounded downward, plain and with half of the divisor added first
-floor_near : (z : ℤ) → nat_abs (floor_by z 4096) ≤ (nat_abs z + 4095) / 4096
-floor_near (pos a) = omega arith
-floor_near (negsuc a) = omega arith
-
-half_near : (z : ℤ) → nat_abs (floor_by (z +ℤ pos 2048) 4096) ≤ (nat_abs z + 2048) / 4096
-half_near (pos a) = omega arith
-half_near (negsuc a) =
-    by_test (λ z. nat_abs (floor_by z 4096) ≤ (suc a + 2048) / 4096) (ltb 2048 (suc a)) (negsuc (suc a - suc 2048)) (pos (2048 - suc a))
-    (λ e. omega (arith, ltb-true 2048 (suc a) e)) (λ _. omega arith)
-
--- the shifts lose less than a half and less than one: what is left is below twice 52,424
-pub scaled_small : (val : ℤ) (factor : ℕ) → nat_abs val ≤ 52424 → factor ≤ 33554432 →
-    nat_abs (scaled_by val (factor / 4096) (factor % 4096)) ≤ 104848
-unfolding scaled_by
-scaled_small val factor h g =
-    let high = factor / 4096 in
-    let low = factor % 4096 in
-    let inner = floor_by ((val *ℤ pos low) +ℤ pos 2048) 4096 in
-    let whole : nat_abs val * factor ≤ 52424 * 33554432 = mul-le-mul h g in
-    let parts : nat_abs val * factor ≡ nat_abs val * high * 4096 + nat_abs val * low =
-    ap (λ x. nat_abs val * x) (sym (div-add-mod' factor 4096))
-    ∙ (mul-add (nat_abs val) (high * 4096) low ∙ ap (λ x. x + nat_abs val * low) (sym (mul_assoc (nat_abs val) high 4096))) in
-    let low_part : nat_abs inner ≤ (nat_abs val * low + 2048) / 4096 = rw abs_mul at (half_near (val *ℤ pos low)) in
-    let high_part : nat_abs (val *ℤ pos high) ≡ nat_abs val * high = abs_mul val (pos high) in
-    omega (arith, floor_near ((val *ℤ pos high) +ℤ inner), abs_add (val *ℤ pos high) inner)
-
-pub sample_small : (q code factor : ℕ) → 0 < q → q < 18 → code ≤ most_of q → factor ≤ 33554432 → nat_abs (sample_of (levels_of q) code factor) ≤ 104848
-unfolding sample_of
-sample_small q code factor p h c f = scaled_small _ factor (centred_small q code (quantiser_range q p h) c) f
 
 pub factor_small : (index : ℕ) → index < 64 → factor_of index ≤ 33554432
 unfolding factor_of

@@ -1,9 +1,8 @@
 -- What a sample's code is worth, in exact fractions: the requantisation of ISO/IEC 11172-3, 2.4.3.3.4, with C and D of Table B.4, and the
 -- scale factors of Table B.1, which are roots and are said without them. For a code c of L steps the requantised value is (2 c - (L - 1)) / L
--- (`requantised-is`). Nothing here is the port's. Assumes nothing.
+-- (`requantised_is` in proofs/Values). Nothing here is the port's. Assumes nothing.
 use Rattle.std.specs.Prelude.{ℕ, zero, suc, ◌+◌, ◌-◌, ◌*◌, ◌^◌, ◌≤◌, ◌<◌, ◌≡◌, cond, List, [], ◌∷◌, T, eqb, ltb, pos, ◌+ℤ◌, ◌-ℤ◌, ◌*ℤ◌, get_or}
-use Rattle.std.proofs.Common.{sym, ap, ◌∙◌, mul-pos, arith, lt-ltb, le-ltb, ltb-true, ltb-false, eqb→eq, pow_pos}
-use Rattle.std.proofs.Math.Nat.{pow-succ'}
+use Rattle.std.proofs.Common.{sym, ap, ◌∙◌, mul-pos, arith, lt-ltb, le-ltb, ltb-true, ltb-false, eqb→eq}
 use Rattle.std.proofs.Math.IntN.{sub_ℕ, *ℤ_comm}
 use Rattle.ground.specs.Tests.{by_test}
 use Rattle.ground.specs.Upto.{upto, below}
@@ -116,22 +115,22 @@ each_class : (f g : ℕ → ℕ) → T (upto (λ k. eqb (f (suc k)) (g (suc k)))
 each_class f g t zero some h = absurd (omega arith)
 each_class f g t (suc k) some h = eqb→eq _ _ (below (λ k. eqb (f (suc k)) (g (suc k))) 17 t k (omega arith))
 
-abbrev bits_of : ℕ → ℕ
+abbrev pub bits_of : ℕ → ℕ
 bits_of q = (requantisation_of q).bits
 
-abbrev parts_of : ℕ → ℕ
+abbrev pub parts_of : ℕ → ℕ
 parts_of q = (requantisation_of q).denominator_d
 
 -- what Table B.4 has for L steps and samples of n bits: C = 2 ^ n / L, and D so that the values lie around 0
-record Row (q : ℕ) : Type 0 where
-  some_bits : bits_of q ≡ suc (bits_of q - 1)
-  some_steps : levels_of q ≡ suc (levels_of q - 1)
-  some_parts : parts_of q ≡ suc (parts_of q - 1)
-  numerator : (requantisation_of q).numerator_c ≡ 2 ^ bits_of q
-  denominator : (requantisation_of q).denominator_c ≡ levels_of q
-  middle : 2 ^ bits_of q * parts_of q ≡ (levels_of q - 1) * parts_of q + 2 ^ bits_of q
+pub record Row (q : ℕ) : Type 0 where
+  pub some_bits : bits_of q ≡ suc (bits_of q - 1)
+  pub some_steps : levels_of q ≡ suc (levels_of q - 1)
+  pub some_parts : parts_of q ≡ suc (parts_of q - 1)
+  pub numerator : (requantisation_of q).numerator_c ≡ 2 ^ bits_of q
+  pub denominator : (requantisation_of q).denominator_c ≡ levels_of q
+  pub middle : 2 ^ bits_of q * parts_of q ≡ (levels_of q - 1) * parts_of q + 2 ^ bits_of q
 
-rows_hold : (q : ℕ) → 0 < q → q < 18 → Row q
+pub rows_hold : (q : ℕ) → 0 < q → q < 18 → Row q
 unfolding requantisation_of table_b4 levels_of quantisation_of classes
 rows_hold q some h =
     record {
@@ -144,18 +143,8 @@ rows_hold q some h =
     }
 
 -- by the row's numbers alone
-by_row : (half all steps l d c : ℕ) → 0 < half → all ≡ 2 * half → steps ≡ suc l → 0 < d → all * d ≡ l * d + all → c < all
+pub by_row : (half all steps l d c : ℕ) → 0 < half → all ≡ 2 * half → steps ≡ suc l → 0 < d → all * d ≡ l * d + all → c < all
     → let v = cond (ltb c half) (c + half) (c - half) in
     Same (times (pos all over steps) (plus (cond (ltb v half) (pos v) (sub_ℕ v all) over half) (pos 1 over d))) (pos (2 * c) -ℤ pos l over steps)
 by_row half all steps l d c some-half e g some-d middle small =
     rw (sub_is (2 * c) l, centred half all c e small, e, g) (worth l half d c some-half some-d (rw e at middle))
-
--- (2 c - (L - 1)) / L, for each class and each code that its bits can hold
-pub requantised_is : (q c : ℕ) → 0 < q → q < 18 → c < 2 ^ (requantisation_of q).bits
-    → Same (requantised q c) (pos (2 * c) -ℤ pos (levels_of q - 1) over levels_of q)
-requantised_is q c some h small =
-    let r = rows_hold q some h in
-    let all : 2 ^ bits_of q ≡ 2 * 2 ^ (bits_of q - 1) = ap (λ k. 2 ^ k) r.some_bits ∙ pow-succ' 2 (bits_of q - 1) in
-    rw (r.numerator, r.denominator)
-    (by_row (2 ^ (bits_of q - 1)) (2 ^ bits_of q) (levels_of q) (levels_of q - 1) (parts_of q) c (pow_pos (bits_of q - 1)) all r.some_steps
-    (omega (arith, r.some_parts)) r.middle small)

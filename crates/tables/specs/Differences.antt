@@ -1,11 +1,10 @@
 -- The source's tables say what the standard's say, but for the entry listed here: each claim is a test computed over all entries.
 -- Assumes nothing.
-use Rattle.std.specs.Prelude.{ℕ, ◌/◌, ◌%◌, ◌^◌, ◌≤◌, ◌<◌, ◌≡◌, refl, Bool, true, false, cond, ◌&&◌, ◌||◌, List, [], ◌∷◌, T, eqb, ltb, leb, drop}
-use Rattle.std.proofs.Common.{lt_of_lt_of_le, arith, eqb→eq, leb→le, pow_mono}
-use Rattle.ground.specs.Upto.{upto, below, below2, and_left, and_right, or_left}
+use Rattle.std.specs.Prelude.{ℕ, ◌/◌, ◌%◌, ◌^◌, ◌<◌, ◌≡◌, refl, Bool, true, false, cond, ◌&&◌, ◌||◌, List, [], ◌∷◌, T, eqb, ltb, leb, drop}
+use Rattle.std.proofs.Common.{eqb→eq}
+use Rattle.ground.specs.Upto.{upto, below, below2}
 use Rattle.tables.specs.Standard.{Table, B2a, B2b, B2c, B2d, rows_of, sblimit, row_of, steps_of, chosen, Class, classes, quantisation_of, levels_of}
 use Rattle.tables.specs.Source.{quant_tab, entry_of, source_row_of, width_of, quantiser_of}
-use Rattle.tables.specs.Laws.{width≤4}
 
 -- the source's table for each of the standard's: 0 that of the low rates, 1 that of the high
 abbrev pub number_of : Table → ℕ
@@ -50,36 +49,19 @@ unfolding width_test
 same_width t sb h = eqb→eq _ _ (below (width_test t) (sblimit t) (widths_hold t) sb h)
 
 -- the steps, wherever a field of that width can lead
-abbrev agrees : Table → ℕ → ℕ → Bool
+abbrev pub agrees : Table → ℕ → ℕ → Bool
 agrees t sb a =
     cond (differs_at t sb a) (eqb (taken t sb a) 65535 && eqb (steps_of t sb a) 32767) (eqb (taken t sb a) (steps_of t sb a))
 
-step_test : Table → ℕ → ℕ → Bool
+unfoldable pub step_test : Table → ℕ → ℕ → Bool
 step_test t sb a = agrees t sb a || leb (2 ^ (row_of t sb).nbal) a
 
-steps_hold : (t : Table) → T (upto (λ (sb : ℕ). upto (step_test t sb) 16) (sblimit t))
+pub steps_hold : (t : Table) → T (upto (λ (sb : ℕ). upto (step_test t sb) 16) (sblimit t))
 unfolding step_test quantiser_of source_row_of levels_of quantisation_of classes steps_of row_of rows_of sblimit
 steps_hold B2a = tt
 steps_hold B2b = tt
 steps_hold B2c = tt
 steps_hold B2d = tt
-
-pub differs_only : (t : Table) (sb allocation : ℕ) → sb < sblimit t → allocation < 2 ^ (row_of t sb).nbal → Compared t sb allocation
-unfolding step_test
-differs_only t sb a h l =
-    let small : 2 ^ (row_of t sb).nbal ≤ 2 ^ 4 = pow_mono (rw (same_width t sb h) at (width≤4 (number_of t) sb)) in
-    let holds : T (agrees t sb a) =
-    or_left (agrees t sb a) (leb (2 ^ (row_of t sb).nbal) a)
-    (below2 (step_test t) (sblimit t) 16 (steps_hold t) sb a h (lt_of_lt_of_le l small))
-    (λ k. let g : 2 ^ (row_of t sb).nbal ≤ a = leb→le _ _ k in omega arith) in
-    record {
-      same = λ e. eqb→eq _ _ (rw e at holds);
-      other = λ e.
-          let both = rw e at holds in (
-            eqb→eq _ _ (and_left (eqb (taken t sb a) 65535) (eqb (steps_of t sb a) 32767) both),
-            eqb→eq _ _ (and_right (eqb (taken t sb a) 65535) (eqb (steps_of t sb a) 32767) both),
-          );
-    }
 
 -- the limit and the table, for mono and not, each bit rate and each sample rate: 84 choices
 limit_test : Bool → ℕ → ℕ → Bool

@@ -7,7 +7,7 @@ use mir.Syntax.{w32}
 use mir.Val.{to_z, of_z}
 use Rattle.ground.specs.Magnitude.{read_back}
 use Rattle.samples.specs.Sample.{scaled_by}
-use Rattle.samples.specs.Bounds.{scaled_small}
+use Rattle.samples.proofs.Bounds.{scaled_small}
 use Rattle.samples.proofs.sample.Goals as goal
 
 -- the first product is small, and read back from its 32 bits
