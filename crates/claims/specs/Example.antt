@@ -25,7 +25,8 @@ use Rattle.past.specs.Pasts.{Past, opened}
 use Rattle.past.specs.Calls.{Call, new_output, sample, before, frame_state, first_bit, bits_called, Accepts, known_accepted}
 use Rattle.past.specs.Ring.{memory_kept_long}
 use Rattle.claims.specs.Widths.{bits_are_the_widths}
-use Rattle.ringout.specs.RingOut.{Agreeing, agree_on, rings_out}
+use Rattle.ringout.specs.RingOut.{Agreeing, agree_on}
+use Rattle.ringout.proofs.RingOut.{rings_out}
 
 -- the state after the header
 abbrev pub headed : Audio

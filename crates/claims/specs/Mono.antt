@@ -1,7 +1,7 @@
 -- In mono both channels sound alike, and a WAVE file has the same bytes for both. From docs/DIFFERENCES.md, S10: "Mono is written to both
 -- channels"; 02, E1: "16-bit stereo". A mono frame's bound is 0, and from the bound up the right channel takes the left's samples; no
 -- frame of another mode can have come before it (6), so the two rings are equal. Assumes nothing.
-use Rattle.std.specs.Prelude.{ℕ, ◌+◌, ◌-◌, ◌*◌, ◌/◌, ◌%◌, ◌≤◌, ◌<◌, ◌≡◌, List, [], Float, length, get_or, drop}
+use Rattle.std.specs.Prelude.{ℕ, ◌+◌, ◌-◌, ◌*◌, ◌%◌, ◌≤◌, ◌<◌, ◌≡◌, List, Float, length, drop}
 use Rattle.std.proofs.Math.Path.{refl, sym, ap}
 use Rattle.std.proofs.Common.{◌∙◌, arith, ext_get_or, le-ltb}
 use Rattle.std.specs.Float.{nan}
@@ -15,9 +15,8 @@ use Rattle.header.specs.declared.Header.{Header}
 use Rattle.header.specs.declared.Header.TheVariants.{Accepted, Refused as HeaderRefused}
 use Rattle.side.specs.Side.{cut_of}
 use Rattle.codes.specs.Twins.{Twins, frame_twins}
-use Rattle.riff.specs.Level.{level_of, bits16}
 use Rattle.window.specs.Output.{nought}
-use Rattle.synthesis.specs.Slots.{ring_of, memory_length, quiet}
+use Rattle.synthesis.specs.Slots.{ring_of, memory_length}
 use Rattle.synthesis.specs.Ring.{SameSlots}
 use Rattle.synthesis.specs.Memory.{ring_of_length}
 use Rattle.synthesis.specs.Equal.{slots_equal, rings_stay_equal, outputs_equal}
@@ -32,17 +31,14 @@ use Rattle.state.specs.declared.Audio.{Audio}
 use Rattle.verdict.specs.declared.Asked.{Asked}
 use Rattle.verdict.specs.declared.Heading.{Heading}
 use Rattle.verdict.specs.declared.Heading.TheVariants.{Known, Refused}
-use Rattle.clip.specs.Frames.{Heard, clip_of}
-use Rattle.clip.specs.File.{file_of}
 use Rattle.past.specs.Pasts.{Past, opened, asked, decoded, refused, relent}
 use Rattle.past.specs.Calls.{Call, outcome, new_memory, new_output, sample, before, frame_state, Accepts, granules_in, known_leaves, accepted_known, accepted_leaves}
 use Rattle.past.specs.Ring.{ring_in_place, memory_kept_long, relent_rings}
 use Rattle.past.specs.Finite.{opened_each}
 use Rattle.frame.specs.FrameLaws.{granule_always}
 use Rattle.past.specs.Sound.{sound_state_in_range, sound, frame_has_extension}
-use Rattle.heard.specs.Heard.{after, opening_past, in_clip}
+use Rattle.heard.specs.Heard.{after}
 use Rattle.past.specs.Formats.{attempt_stays, after_frame, format_stays}
-use Rattle.claims.specs.Wave.{sample_bytes}
 
 -- ---- a frame's slots
 
@@ -122,9 +118,9 @@ mono_alike {c} past ok mono k first last =
     (outputs_equal (slots_of (granules_in c)) (ring_in_place past) c.memory (memory_kept_long past) 36 (frame_slots c past (accepted_known c ok) mono)
     rings c.output 0 d.goes.output_long (k - 1) (omega arith))
 
--- ---- a clip that opens in mono, and its file
+-- ---- a clip that opens in mono: it and its file are proofs/Mono's
 
-open_known : (s : List ℕ) (m : List Float) → (open_of plain s m).state.format.mode ≡ 3 → (open_of plain s m).state.format.samplerate ≡ 3 → ⊥
+pub open_known : (s : List ℕ) (m : List Float) → (open_of plain s m).state.format.mode ≡ 3 → (open_of plain s m).state.format.samplerate ≡ 3 → ⊥
 unfolding attempt_of fresh
 open_known s m =
     by_opening plain s m K (λ _ e. absurd (omega arith)) (λ _ _ e. absurd (omega arith))
@@ -138,12 +134,12 @@ open_known s m =
     go k (Accepted f n) r g = λ _ none. let l = g.samplerate in omega arith
     go k (HeaderRefused n) r g = λ e. absurd (omega arith)
 
-record InMono (c : Call) : Type 0 where
-  past : Past c.state c.memory
-  known : c.state.format.samplerate ≡ 3 → ⊥
-  mode : c.state.format.mode ≡ 3
+pub record InMono (c : Call) : Type 0 where
+  pub past : Past c.state c.memory
+  pub known : c.state.format.samplerate ≡ 3 → ⊥
+  pub mode : c.state.format.mode ≡ 3
 
-mono_on : (c : Call) → InMono c → InMono (after c)
+pub mono_on : (c : Call) → InMono c → InMono (after c)
 mono_on c q =
     let e = format_stays c q.known in
     record {
@@ -151,26 +147,3 @@ mono_on c q =
       known = λ none. q.known (sym e.samplerate ∙ none);
       mode = e.mode ∙ q.mode;
     }
-
-module _ (s : List ℕ) (short : length s ≤ longest_stream) (mono : (open_of plain s (quiet memory_length)).state.format.mode ≡ 3) where
-  pub mono_clip : (i : ℕ) (d : Heard) → i < length (clip_of s)
-      → (k : ℕ) → 1 ≤ k → k ≤ 1152 → sample (get_or (clip_of s) i d).samples 0 k ≡ sample (get_or (clip_of s) i d).samples 1 k
-  mono_clip =
-      in_clip InMono (λ x. (k : ℕ) → 1 ≤ k → k ≤ 1152 → sample x.samples 0 k ≡ sample x.samples 1 k) mono_on
-      (λ c q ok. mono_alike q.past ok (sym (after_frame c).mode ∙ (format_stays c q.known).mode ∙ q.mode))
-      s (record { past = opening_past plain s short; known = open_known s (quiet memory_length) mono; mode = mono })
-
-  -- the right sample's two bytes are those of the left, which stand before them
-  pub mono_file : (i : ℕ) → i < length (clip_of s) → (k : ℕ) → 1 ≤ k → k ≤ 1152 → let at = 44 + (4608 * i + 4 * (k - 1)) in
-      (get_or (file_of s) at 0 ≡ get_or (file_of s) (at + 2) 0) × (get_or (file_of s) (at + 1) 0 ≡ get_or (file_of s) (at + 3) 0)
-  mono_file i l k first last =
-      let d : Heard = record { rate = 0; samples = [] } in
-      let e = mono_clip i d l k first last in
-      let a = sample_bytes s i d l (2 * (k - 1) + 0) (omega arith) in
-      let b = sample_bytes s i d l (2 * (k - 1) + 1) (omega arith) in (
-        move (omega arith) ∙ a.0 ∙ ap (λ (x : Float). bits16 (level_of x) % 256) e ∙ sym b.0 ∙ move (omega arith),
-        move (omega arith) ∙ a.1 ∙ ap (λ (x : Float). bits16 (level_of x) / 256) e ∙ sym b.1 ∙ move (omega arith),
-      )
-    where
-      move : {m n : ℕ} → m ≡ n → get_or (file_of s) m 0 ≡ get_or (file_of s) n 0
-      move e = ap (λ (at : ℕ). get_or (file_of s) at 0) e

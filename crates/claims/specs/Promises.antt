@@ -1,5 +1,6 @@
 -- What was promised, sentence by sentence: a record for each of the person's three demands, a field for each sentence, filled by a
--- theorem. The definitions that a field names are those that the contracts of the code cite. docs/CLAIMS.md goes by it.
+-- theorem (demands 1 and 3 in proofs/Promises). The definitions that a field names are those that the contracts of the code cite.
+-- docs/CLAIMS.md goes by it.
 use Rattle.std.specs.Prelude.{ℕ, ◌+◌, ◌*◌, ◌%◌, ◌≤◌, ◌<◌, ◌≡◌, true, false, List, ℤ, pos, Float, length, get_or}
 use Rattle.std.specs.Float.{fin, nan}
 use Rattle.ground.specs.Rows.{TableOf}
@@ -30,15 +31,14 @@ use Rattle.alike.specs.Pairs.{Permits}
 use Rattle.alike.specs.Headers.{Follows, Reaches, AcceptedAt, the_standards_header, not_permitted_is_13, StandardsHeader, an_accepted_header}
 use Rattle.past.specs.Pasts.{Past}
 use Rattle.past.specs.Calls.{Call, outcome, new_memory, new_output, sample, frame_state, first_bit, bits_called, Accepts, end_of}
-use Rattle.past.specs.Sound.{sound_state_in_range, reading_of, time_by_frames}
+use Rattle.past.specs.Sound.{reading_of, time_by_frames}
 use Rattle.past.specs.Finite.{BitForBit}
-use Rattle.claims.specs.Numbers.{Decodes, decode_table, Opens, open_table, Asks, question_table}
-use Rattle.claims.specs.Untouched.{refused_call_leaves_all, opening_clears}
-use Rattle.claims.specs.Settled.{Rests, an_end_lasts}
+use Rattle.claims.specs.Numbers.{Decodes, Opens, Asks}
+use Rattle.claims.specs.Settled.{Rests}
 use Rattle.claims.specs.Standard.{reading_over, ReadAs, unlisted_reads_the_same, ReadByItsFormat, accepted_as_the_standard, On, StandardsFrame, accepted_frames_are_the_standards, strict_frames_have_the_standards_pairs}
 use Rattle.claims.specs.Widths.{bits_are_the_movement, bits_are_the_widths}
-use Rattle.ringout.specs.RingOut.{Agreeing, Together, same_bits_used, rings_out_bit_for_bit, whatever_the_memories, every_later_sample_bit_for_bit}
-use Rattle.claims.specs.Sharp.{TellsApart, rings_on_for_15_blocks}
+use Rattle.ringout.specs.RingOut.{Agreeing, Together}
+use Rattle.claims.specs.Sharp.{TellsApart}
 
 pub record Demand1 : Type 0 where
   -- "Every stream, buffer and saved state gets a definite answer and the call ends." "Each refusal has its number."
@@ -55,18 +55,6 @@ pub record Demand1 : Type 0 where
   -- "but that an opening which only found no good header still clears the memory."
   pub opening_clears_memory : (s : List ℕ) (m : List Float) → length s ≤ longest_stream → memory_length ≤ length m
       → (i : ℕ) → i < memory_length → get_or (open_memory s m) i nan ≡ fin false 0 (pos 0)
-
-pub demand_1 : Demand1
-demand_1 =
-    record {
-      decode_has_its_number = λ c. decode_table c.stream c.memory c.output c.state;
-      opening_has_its_number = open_table;
-      question_has_its_number = question_table;
-      no_call_leads_out_of_range = sound_state_in_range;
-      an_end_is_one_for_ever = an_end_lasts;
-      refused_leaves_all = λ c. refused_call_leaves_all c.stream c.memory c.output c.state;
-      opening_clears_memory = opening_clears;
-    }
 
 pub record Demand2 : Type 0 where
   -- "Frames, bits, samples and start times equal the Rust's": the definitions are after the Rust, and compared with it by running
@@ -132,13 +120,3 @@ pub record Demand3 : Type 0 where
   -- "While the accepted frames go on agreeing so, with no opening and no other writing between, every later sample is equal too."
   pub every_later_sample : {c d : Call} → Together c.state c.memory d.state d.memory → Agreeing c d
       → (channel k : ℕ) → channel < 2 → 1 ≤ k → k ≤ 1152 → BitForBit (sample (new_output c) channel k) (sample (new_output d) channel k)
-
-pub demand_3 : Demand3
-demand_3 =
-    record {
-      same_bits = same_bits_used;
-      rings_out = rings_out_bit_for_bit;
-      whatever_the_memories_hold = whatever_the_memories;
-      rings_on = rings_on_for_15_blocks;
-      every_later_sample = every_later_sample_bit_for_bit;
-    }

@@ -39,7 +39,8 @@ use Rattle.past.specs.Calls.{Call, new_output, sample, granules_in, known_accept
 use Rattle.past.specs.Finite.{BitForBit}
 use Rattle.past.specs.Ring.{ring_in_place, memory_kept_long}
 use Rattle.claims.specs.Clips.{knocking, silent, behind, silence, knock, mono, headed, headed_two, headed_three, Course, courses, first, second, third, past_one, past_two, opened_at, before_first, state_one, before_second, before_third}
-use Rattle.ringout.specs.RingOut.{Agreeing, agree_on, Together, begin, rings_out, every_later_sample}
+use Rattle.ringout.specs.RingOut.{Agreeing, agree_on, Together, begin}
+use Rattle.ringout.proofs.RingOut.{rings_out, every_later_sample}
 
 -- ---- sample 480 of the second frame
 
@@ -47,7 +48,7 @@ use Rattle.ringout.specs.RingOut.{Agreeing, agree_on, Together, begin, rings_out
 abbrev later : List (List ℤ) → Float
 later g = outputs_at (slots_of silence 0) 768 (ring_after (slots_of g 0) 0 (replicate 1024 nought) 36) 14 31
 
-later_bits : to_bits binary32 (later knock) ∷ to_bits binary32 (later silence) ∷ [] ≡ 0xB73A69A5 ∷ 0x80000000 ∷ []
+pub later_bits : to_bits binary32 (later knock) ∷ to_bits binary32 (later silence) ∷ [] ≡ 0xB73A69A5 ∷ 0x80000000 ∷ []
 unfolding outputs_at output_of taps ring_after slot_ring put position_after slot_samples standard_d half window_list window_at idct floats transform sums_of
     differences_of woven_of slot_of halving_factors table of_int of_bits add sub mul neg div to_bits
 later_bits = refl
@@ -61,7 +62,7 @@ module _ {s : List ℕ} {granules : List (List ℤ)} {last end : ℕ} (course : 
   abbrev two_calls : Call
   two_calls = second s m o
 
-  sample_480 : sample (new_output two_calls) 0 480 ≡ later granules
+  pub sample_480 : sample (new_output two_calls) 0 480 ≡ later granules
   unfolding fresh
   sample_480 =
       let past = past_one course m o long room in
@@ -102,16 +103,16 @@ same_bits = (refl, refl, λ i l. eqb→eq _ _ (below (same 864) 26 tt i l), λ i
 
 -- ---- the two decoders, each with its own memory and output
 
-abbrev knocked : Course (behind knocking) knock 126 128
+abbrev pub knocked : Course (behind knocking) knock 126 128
 knocked = courses.0
 
-abbrev unknocked : Course (behind silent) silence 58 64
+abbrev pub unknocked : Course (behind silent) silence 58 64
 unknocked = courses.1
 
 module _ (m n o u : List Float) (long : memory_length ≤ length m) (long' : memory_length ≤ length n) (room : output_length ≤ length o)
     (room' : output_length ≤ length u) where
   -- the premises of demand 3 hold
-  second_frames_agree : Agreeing (second (behind knocking) m o) (second (behind silent) n u)
+  pub second_frames_agree : Agreeing (second (behind knocking) m o) (second (behind silent) n u)
   second_frames_agree =
       agree_on _ _ headed_two (before_second knocked m o long room) (before_second unknocked n u long' room') 0 26 refl same_bits.0
       (lit≤ tt) (lit≤ tt) same_bits.2
@@ -121,18 +122,12 @@ module _ (m n o u : List Float) (long : memory_length ≤ length m) (long' : mem
       agree_on _ _ headed_three (before_third knocked m o long room) (before_third unknocked n u long' room') 0 26 refl same_bits.1
       (lit≤ tt) (lit≤ tt) same_bits.3
 
-  remainder : (second (behind knocking) m o).state.frames % 4 ≡ (second (behind silent) n u).state.frames % 4
+  pub remainder : (second (behind knocking) m o).state.frames % 4 ≡ (second (behind silent) n u).state.frames % 4
   remainder = ap (λ (a : Audio). a.frames % 4) (state_one knocked m o long room) ∙ sym (ap (λ (a : Audio). a.frames % 4) (state_one unknocked n u long' room'))
 
   together : Together (third (behind knocking) m o).state (third (behind knocking) m o).memory (third (behind silent) n u).state
       (third (behind silent) n u).memory
   together = begin _ _ (past_two knocked m o long room) (past_two unknocked n u long' room') remainder second_frames_agree
-
-  -- the fifteenth block still tells them apart
-  pub sample_480_differs : to_bits binary32 (sample (new_output (second (behind knocking) m o)) 0 480)
-      ∷ to_bits binary32 (sample (new_output (second (behind silent) n u)) 0 480) ∷ [] ≡ 0xB73A69A5 ∷ 0x80000000 ∷ []
-  sample_480_differs =
-      ap₂ (λ x y. to_bits binary32 x ∷ to_bits binary32 y ∷ []) (sample_480 knocked m o long room) (sample_480 unknocked n u long' room') ∙ later_bits
 
   -- the knock is over with the sixteenth block, and the next frame has nothing of it
   pub the_knock_stops : (channel k : ℕ) → channel < 2 → 481 ≤ k → k ≤ 1152
@@ -150,31 +145,3 @@ pub record TellsApart (c d : Call) : Type 0 where
   pub remainder : c.state.frames % 4 ≡ d.state.frames % 4
   pub agree : Agreeing c d
   pub differs : BitForBit (sample (new_output c) 0 480) (sample (new_output d) 0 480) → ⊥
-
-pub rings_on_for_15_blocks : (c : Call) × (d : Call) × TellsApart c d
-rings_on_for_15_blocks = (
-  second (behind knocking) memory output,
-  second (behind silent) memory output,
-  record {
-    past = past_two knocked memory output long room;
-    past' = past_two unknocked memory output long room;
-    remainder = remainder memory memory output output long long room room;
-    agree = second_frames_agree memory memory output output long long room room;
-    differs = λ same.
-        let e = sample_480_differs memory memory output output long long room room in
-        let f = ap (to_bits binary32) (sym same.one ∙ same.other) in
-        absurd (omega (arith, sym (ap (λ xs. get_or xs 0 0) e) ∙ f ∙ ap (λ xs. get_or xs 1 0) e));
-  },
-)
-  where
-    memory : List Float
-    memory = replicate memory_length nought
-
-    output : List Float
-    output = replicate output_length nought
-
-    long : memory_length ≤ length memory
-    long = omega (arith, length-replicate memory_length nought)
-
-    room : output_length ≤ length output
-    room = omega (arith, length-replicate output_length nought)

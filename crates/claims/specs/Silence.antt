@@ -4,10 +4,10 @@
 use Prim.Native.Nat.{ℕ, zero, suc, ◌+◌, ◌-◌, ◌*◌, ◌/◌, ◌%◌, ◌≤◌, ◌<◌}
 use Rattle.std.specs.Prelude.{◌≡◌, Bool, true, false, ◌||◌, List, [], ◌∷◌, T, eqb, ℤ, pos, Float, length, get_or, take, drop, replicate}
 use Rattle.std.proofs.Math.Path.{refl, ap}
-use Rattle.std.proofs.Common.{◌∙◌, zero-add, mul-zero, mul-pos, arith, le-ltb, lit<, lit≤, eqb→eq}
+use Rattle.std.proofs.Common.{◌∙◌, mul-zero, mul-pos, arith, le-ltb, lit<, lit≤, eqb→eq}
 use Rattle.std.specs.Bool.{beq}
 use Rattle.std.specs.Float.{nan, inf, fin, binary32}
-use Rattle.std.specs.Float.Ieee.{up, down, round, unlike, add, sub, mul, div, neg, eq, of_int, of_bits, to_bits}
+use Rattle.std.specs.Float.Ieee.{up, down, round, unlike, add, sub, mul, div, neg, eq, of_int, of_bits}
 use Rattle.std.specs.Float.Ieee.Fits.{down_pos}
 use Rattle.std.specs.Float.Ieee.Scale.{round_same}
 use Rattle.std.proofs.lemmas.List.{get_or-replicate}
@@ -29,14 +29,13 @@ use Rattle.window.specs.Output.{nought, taps, output_of}
 use Rattle.synthesis.specs.Slots.{slot_samples, memory_length, output_length}
 use Rattle.finite.specs.Within.{Factor}
 use Rattle.finite.specs.Sums.{weight_at, entry_factor}
-use Rattle.finite.specs.Each.{Each, InBothRings, Written, Summed, each_output}
+use Rattle.finite.specs.Each.{Each, InBothRings, Written, Summed}
 use Rattle.frame.specs.Frame.{codes_in, granules_at, slots_of}
 use Rattle.audio.specs.Calls.{open_memory, no_room_of}
 use Rattle.state.specs.declared.Audio.{Audio}
-use Rattle.past.specs.Calls.{new_output, sample, granules_in, accepted_leaves}
-use Rattle.past.specs.Ring.{ring_in_place, memory_kept_long}
+use Rattle.past.specs.Calls.{granules_in}
 use Rattle.past.specs.Finite.{opened_each}
-use Rattle.claims.specs.Example.{headed, opening, opened_on_zeros, zeros_accepted, frame_state_headed}
+use Rattle.claims.specs.Example.{headed, opening, frame_state_headed}
 
 -- ---- the frame's samples are all 0
 
@@ -63,7 +62,7 @@ slots_silent channel n two l =
 
 -- ---- which become zeros of either sign: +0.0 and −0.0 are those that compare equal to +0.0
 
-abbrev Zero : Float → Type 0
+abbrev pub Zero : Float → Type 0
 Zero x = T (eq x nought)
 
 silent_slot : Written Zero (replicate 32 (pos 0))
@@ -106,7 +105,7 @@ module _ (ring : List Float) (silent : Each Zero ring) where
       (plus_product (weight_at j) 2 (window_at j) (get_or ring (r + 128 * k) nan) (entry_factor j (omega arith)) (silent (r + 128 * k) (omega arith)))
 
   -- which the division makes −0.0
-  silent_sums : Summed (λ x. x ≡ fin true 0 (pos 0)) ring
+  pub silent_sums : Summed (λ x. x ≡ fin true 0 (pos 0)) ring
   unfolding Summed output_of div
   silent_sums p j hp hj =
       rw (
@@ -120,23 +119,9 @@ module _ (m o : List Float) (long : memory_length ≤ length m) (room : output_l
   granules_silent : granules_in (opening m o) ≡ silence
   granules_silent = ap (λ (a : Audio). (granules_at zeros a.reader a.format).value) (frame_state_headed m o long room) ∙ read_silence
 
-  memory_zero : InBothRings Zero (opening m o).memory
+  pub memory_zero : InBothRings Zero (opening m o).memory
   unfolding open_memory no_room_of eq
   memory_zero = simp (le-ltb _ _ long) (opened_each Zero tt (drop memory_length m))
 
-  slots_zero : (channel : ℕ) → channel < 2 → (n : ℕ) → n < 36 → Written Zero (slots_of (granules_in (opening m o)) channel n)
+  pub slots_zero : (channel : ℕ) → channel < 2 → (n : ℕ) → n < 36 → Written Zero (slots_of (granules_in (opening m o)) channel n)
   slots_zero channel two n l = rw (granules_silent, slots_silent channel n two l) silent_slot
-
-  -- "All 2,304 samples of that frame, from a fresh opening, are −0.0"
-  pub zeros_sound_minus_zero : (channel k : ℕ) → channel < 2 → 1 ≤ k → k ≤ 1152 → sample (new_output (opening m o)) channel k ≡ fin true 0 (pos 0)
-  zeros_sound_minus_zero channel k two first last =
-      let c = opening m o in
-      let past = opened_on_zeros m o long room in
-      rw ((accepted_leaves c (zeros_accepted m o long room)).output, ← zero-add (2 * (k - 1) + channel))
-      (each_output Zero (slots_of (granules_in c)) (ring_in_place past) c.memory (memory_kept_long past) memory_zero 36 slots_zero
-      (λ x. x ≡ fin true 0 (pos 0)) silent_sums o 0 room (2 * (k - 1) + channel) (omega arith))
-
-  -- "(bits 80000000)"
-  pub zeros_sound_80000000 : (channel k : ℕ) → channel < 2 → 1 ≤ k → k ≤ 1152 → to_bits binary32 (sample (new_output (opening m o)) channel k) ≡ 0x80000000
-  unfolding to_bits
-  zeros_sound_80000000 channel k two first last = ap (to_bits binary32) (zeros_sound_minus_zero channel k two first last)

@@ -6,14 +6,14 @@ use Rattle.std.proofs.Math.Path.{sym, ap}
 use Rattle.std.proofs.Common.{ap₂, ◌∙◌, zero-add, arith}
 use Rattle.std.specs.Float.{nan}
 use Rattle.grammar.specs.Reads.{run, called}
-use Rattle.grammar.specs.Widths.{Agree, Alike, alike, same_used}
+use Rattle.grammar.specs.Widths.{Agree, Alike, alike}
 use Rattle.header.specs.Header.{bound_by}
 use Rattle.header.specs.Accepted.{Extended}
 use Rattle.header.specs.declared.Format.{Format}
 use Rattle.readings.specs.declared.Reading.{Reading}
 use Rattle.window.specs.Output.{Place}
-use Rattle.synthesis.specs.Slots.{position_after, ring_of, memory_after, output_after, output_length, memory_length}
-use Rattle.synthesis.specs.Wash.{ring_washed, output_washed, output_by_rings}
+use Rattle.synthesis.specs.Slots.{ring_of, memory_after, output_after, output_length, memory_length}
+use Rattle.synthesis.specs.Wash.{output_washed}
 use Rattle.frame.specs.Frame.{codes_in, granules_at, slots_of}
 use Rattle.audio.specs.Calls.{decode_of, format_of}
 use Rattle.state.specs.declared.Audio.{Audio}
@@ -21,11 +21,10 @@ use Rattle.verdict.specs.Verdict.{asked as stands}
 use Rattle.verdict.specs.declared.Asked.{Asked}
 use Rattle.verdict.specs.declared.Heading.TheVariants.{Known}
 use Rattle.audio.specs.declared.Answer.TheVariants.{Refused as AnswerRefused}
-use Rattle.past.specs.Pasts.{Past, asked, decoded, refused, relent}
-use Rattle.past.specs.Calls.{question_keeps, Call, outcome, new_memory, new_output, sample, before, frame_state, first_bit, bits_called, Accepts, before_keeps, accepted_known, known_accepted, granules_in, Leaves, accepted_leaves, accepted_bits, refused_keeps}
+use Rattle.past.specs.Pasts.{Past}
+use Rattle.past.specs.Calls.{Call, outcome, new_memory, new_output, sample, before, frame_state, first_bit, bits_called, Accepts, before_keeps, accepted_known, known_accepted, granules_in, Leaves, accepted_leaves}
 use Rattle.past.specs.Sound.{sound, sound_state_in_range, frame_has_extension}
-use Rattle.past.specs.Ring.{ring_by_frames, memory_kept_long, relent_rings}
-use Rattle.past.specs.Finite.{samples_finite, samples_fit, BitForBit, equal_values_equal_bits}
+use Rattle.past.specs.Ring.{ring_by_frames}
 
 -- ---- agreeing frames
 
@@ -47,7 +46,8 @@ pub record Agreeing (c d : Call) : Type 0 where
   pub present' : first_bit d + bits_called c ≤ 8 * length d.stream
   pub equal : Agree c.stream (first_bit c) d.stream (first_bit d) (bits_called c)
 
-one_format : (f g : Format) (e : ℕ) → f.reading ≡ g.reading → f.samplerate ≡ g.samplerate → f.bitrate ≡ g.bitrate → f.mode ≡ g.mode
+-- frames of one format whose bits are equal are read alike, by the fields of `Agreeing` alone
+pub one_format : (f g : Format) (e : ℕ) → f.reading ≡ g.reading → f.samplerate ≡ g.samplerate → f.bitrate ≡ g.bitrate → f.mode ≡ g.mode
     → f.bound ≡ bound_by f.mode e → g.bound ≡ bound_by g.mode e → f ≡ g
 one_format f g e w r b m h k =
     let z : f.bound ≡ g.bound = h ∙ ap (λ (x : ℕ). bound_by x e) m ∙ sym k in
@@ -58,34 +58,113 @@ one_format f g e w r b m h k =
         (record { reading = w'; samplerate = r'; bitrate = b'; mode = m'; bound = h' })
     go w w' r r' b b' m m' h h' o p q s t = cc
 
-module _ {c d : Call} (agree : Agreeing c d) where
-  format : (frame_state c).format ≡ (frame_state d).format
-  format = one_format _ _ agree.extension agree.reading agree.samplerate agree.bitrate agree.mode agree.bound agree.bound'
-
-  read_alike : Alike (codes_in (frame_state c).format) c.stream (frame_state c).reader d.stream (frame_state d).reader
-  read_alike =
-      let x = (accepted_leaves c agree.accepts).goes.ready.short in
-      let y = (accepted_leaves d agree.accepts').goes.ready.short in
+module _ {c d : Call} (ok : Accepts c) (ok' : Accepts d) (present : first_bit c + bits_called c ≤ 8 * length c.stream)
+    (present' : first_bit d + bits_called c ≤ 8 * length d.stream) (equal : Agree c.stream (first_bit c) d.stream (first_bit d) (bits_called c)) where
+  pub reads_alike : Alike (codes_in (frame_state c).format) c.stream (frame_state c).reader d.stream (frame_state d).reader
+  reads_alike =
+      let x = (accepted_leaves c ok).goes.ready.short in
+      let y = (accepted_leaves d ok').goes.ready.short in
       alike (codes_in (frame_state c).format) c.stream d.stream (frame_state c).reader (frame_state d).reader
-      (record { short = x; near = omega (arith, agree.present); enough = omega (arith, agree.present) })
-      (record { short = y; near = omega (arith, agree.present'); enough = omega (arith, agree.present') }) agree.equal
+      (record { short = x; near = omega (arith, present); enough = omega (arith, present) })
+      (record { short = y; near = omega (arith, present'); enough = omega (arith, present') }) equal
 
-  -- the same samples are read
-  same_granules : granules_in c ≡ granules_in d
+  granules_alike : (frame_state c).format ≡ (frame_state d).format → granules_in c ≡ granules_in d
   unfolding granules_at
-  same_granules = read_alike.value ∙ ap (λ (f : Format). (run (codes_in f) d.stream (frame_state d).reader).value) format
+  granules_alike format = reads_alike.value ∙ ap (λ (f : Format). (run (codes_in f) d.stream (frame_state d).reader).value) format
 
-  -- as many bits are called for
-  pub same_bits_called : bits_called c ≡ bits_called d
-  same_bits_called = read_alike.calls ∙ ap (λ (f : Format). called (codes_in f) d.stream (frame_state d).reader) format
+-- ---- the mode extension
 
-  -- "both use the same number of bits"
-  pub same_bits_used : agree.accepts.bits ≡ agree.accepts'.bits
-  unfolding granules_at
-  same_bits_used =
-      accepted_bits c agree.accepts ∙ same_used read_alike
-      ∙ ap (λ (f : Format). (run (codes_in f) d.stream (frame_state d).reader).next.at.0 - first_bit d) format
-      ∙ sym (accepted_bits d agree.accepts')
+-- every frame that is accepted since opening has one, 0 to 3, by which its bound goes: 01, "joint stereo (1) gives 4 times (extension
+-- + 1), mono (3) gives 0, others 32". So "same mode extension" can be said by the bound
+pub accepted_frame_has_extension : {c : Call} → Past c.state c.memory → Accepts c
+    → Extended (frame_state c).format.mode (frame_state c).format.bound
+accepted_frame_has_extension {c} p ok =
+    frame_has_extension c.stream (length c.memory) (length c.output) c.state (sound_state_in_range p) (sound p) (accepted_known c ok)
+
+-- and in joint stereo, where alone it matters, the bound tells it
+pub joint_bound_tells_extension : (e f : ℕ) → bound_by 1 e ≡ bound_by 1 f → e ≡ f
+joint_bound_tells_extension e f h = omega arith
+
+-- ---- the samples
+
+-- as far as the synthesis goes two decoders are one: what lies past the rings may differ
+pub record Joined (a : Audio) (m : List Float) (b : Audio) (n : List Float) : Type 0 where
+  pub ring : a.ring ≡ b.ring
+  pub rings : (channel : ℕ) → channel < 2 → ring_of channel m ≡ ring_of channel n
+
+-- what a call that accepts a frame leaves, by its ring position and granules
+module _ (x : Call) (ok : Accepts x) (p : ℕ) (at : x.state.ring ≡ p) (granules : List (List ℤ)) (is : granules_in x ≡ granules) where
+  pub memory_is : new_memory x ≡ memory_after (slots_of granules) p x.memory 36
+  memory_is = (accepted_leaves x ok).memory ∙ ap₂ (λ q g. memory_after (slots_of g) q x.memory 36) at is
+
+  pub output_is : new_output x ≡ output_after (slots_of granules) p x.memory x.output 0 36
+  output_is = (accepted_leaves x ok).output ∙ ap₂ (λ q g. output_after (slots_of g) q x.memory x.output 0 36) at is
+
+-- two calls that accept frames of the same granules, at one ring position
+module _ {c d : Call} (ok : Accepts c) (ok' : Accepts d) (granules : granules_in c ≡ granules_in d) (ring : c.state.ring ≡ d.state.ring) where
+  abbrev f : ℕ → ℕ → List ℤ
+  f = slots_of (granules_in d)
+
+  abbrev lent : Leaves c
+  lent = accepted_leaves c ok
+
+  abbrev lent' : Leaves d
+  lent' = accepted_leaves d ok'
+
+  place : Place c.state.ring
+  place = rw (← (before_keeps c).ring) lent.goes.ready.place
+
+  pub outputs_by_granules : (i : ℕ)
+      → get_or (output_after f c.state.ring c.memory c.output 0 36) i nan ≡ get_or (output_after f c.state.ring d.memory d.output 0 36) i nan
+      → get_or (new_output c) i nan ≡ get_or (new_output d) i nan
+  outputs_by_granules i e =
+      ap (λ (o : List Float). get_or o i nan) (output_is c ok c.state.ring refl (granules_in d) granules) ∙ e
+      ∙ sym (ap (λ (o : List Float). get_or o i nan) (output_is d ok' c.state.ring (sym ring) (granules_in d) refl))
+
+  -- whatever the memories held, sixteen slots wash it out
+  first_output : (i : ℕ) → 960 ≤ i → i < output_length → get_or (new_output c) i nan ≡ get_or (new_output d) i nan
+  first_output i late l =
+      outputs_by_granules i
+      (rw (← zero-add i)
+      (output_washed f f place c.memory d.memory lent.goes.memory_long lent'.goes.memory_long 36 (λ _ _ _ _. refl) c.output d.output 0 0
+      lent.goes.output_long lent'.goes.output_long i late l))
+
+module _ {c d : Call} (agree : Agreeing c d) (ring : c.state.ring ≡ d.state.ring) where
+  -- the law without pasts: at one ring position the memories may hold whatever they like
+  pub whatever_the_memories : (channel k : ℕ) → channel < 2 → 481 ≤ k → k ≤ 1152 → sample (new_output c) channel k ≡ sample (new_output d) channel k
+  whatever_the_memories channel k two late last =
+      first_output agree.accepts agree.accepts'
+      (granules_alike agree.accepts agree.accepts' agree.present agree.present' agree.equal
+      (one_format _ _ agree.extension agree.reading agree.samplerate agree.bitrate agree.mode agree.bound agree.bound'))
+      ring (2 * (k - 1) + channel) (omega arith) (omega arith)
+
+-- ---- the first agreeing frame, whatever came before
+
+module _ {c d : Call} (past : Past c.state c.memory) (past' : Past d.state d.memory) (remainder : c.state.frames % 4 ≡ d.state.frames % 4)
+    (agree : Agreeing c d) where
+  pub same_ring : c.state.ring ≡ d.state.ring
+  same_ring = ring_by_frames past ∙ ap (λ (r : ℕ). (1024 - 256 * r) % 1024) remainder ∙ sym (ring_by_frames past')
+
+-- ---- and after it
+
+-- a call that accepts no frame: a question about the format, a decode call that gives a number, whatever memory it was lent; and between
+-- calls the lent slice may change behind the memory
+pub data Passes (a : Audio) (m : List Float) : Audio → List Float → Type 0 where
+  asks : (s : List ℕ) → Passes a m (format_of s a).state m
+  refuses : (s : List ℕ) (other o : List Float) (number : ℕ) → (decode_of s other o a).answer ≡ AnswerRefused number → Passes a m (decode_of s other o a).state m
+  lends : (more : List Float) → Passes a m a (take memory_length m ++ more)
+
+-- two decoders that accepted agreeing frames, and since then, each on its own streams, any calls that accept no frame, and pair by
+-- pair further agreeing frames: "with no opening and no other writing between"
+pub data Together : Audio → List Float → Audio → List Float → Type 0 where
+  begin : (c d : Call) → Past c.state c.memory → Past d.state d.memory → c.state.frames % 4 ≡ d.state.frames % 4
+      → Agreeing c d → Together (outcome c).state (new_memory c) (outcome d).state (new_memory d)
+  one_passes : {a b a' : Audio} {m n m' : List Float} → Together a m b n → Passes a m a' m' → Together a' m' b n
+  other_passes : {a b b' : Audio} {m n n' : List Float} → Together a m b n → Passes b n b' n' → Together a m b' n'
+  again : (c d : Call) → Together c.state c.memory d.state d.memory
+      → Agreeing c d → Together (outcome c).state (new_memory c) (outcome d).state (new_memory d)
+
+-- ---- calls that agree
 
 -- two calls before whose frames the same state stands agree, if their streams hold the same n bits there
 pub agree_on : (c d : Call) {j k : ℕ} (b : Audio) → before c ≡ stands j Known b → before d ≡ stands k Known b
@@ -113,26 +192,7 @@ agree_on c d b is is' extension n bound calls there there' equal =
       equal = rw (many, from, from') equal;
     }
 
--- the two may change places, and a call that has its bits agrees with itself
-pub agree_both_ways : {c d : Call} → Agreeing c d → Agreeing d c
-unfolding Agree
-agree_both_ways {c} {d} agree =
-    let n = same_bits_called agree in
-    record {
-      accepts = agree.accepts';
-      accepts' = agree.accepts;
-      reading = sym agree.reading;
-      samplerate = sym agree.samplerate;
-      bitrate = sym agree.bitrate;
-      mode = sym agree.mode;
-      extension = agree.extension;
-      bound = agree.bound';
-      bound' = agree.bound;
-      present = omega (arith, agree.present');
-      present' = omega (arith, agree.present);
-      equal = λ i l. sym (agree.equal i (omega arith));
-    }
-
+-- a call that has its bits agrees with itself
 pub agrees_with_itself : {c : Call} → Accepts c → (extension : ℕ) → (frame_state c).format.bound ≡ bound_by (frame_state c).format.mode extension
     → first_bit c + bits_called c ≤ 8 * length c.stream → Agreeing c c
 unfolding Agree
@@ -151,182 +211,3 @@ agrees_with_itself ok e b h =
       present' = h;
       equal = λ i l. refl;
     }
-
--- ---- the mode extension
-
--- every frame that is accepted since opening has one, 0 to 3, by which its bound goes: 01, "joint stereo (1) gives 4 times (extension
--- + 1), mono (3) gives 0, others 32". So "same mode extension" can be said by the bound
-pub accepted_frame_has_extension : {c : Call} → Past c.state c.memory → Accepts c
-    → Extended (frame_state c).format.mode (frame_state c).format.bound
-accepted_frame_has_extension {c} p ok =
-    frame_has_extension c.stream (length c.memory) (length c.output) c.state (sound_state_in_range p) (sound p) (accepted_known c ok)
-
--- and in joint stereo, where alone it matters, the bound tells it
-pub joint_bound_tells_extension : (e f : ℕ) → bound_by 1 e ≡ bound_by 1 f → e ≡ f
-joint_bound_tells_extension e f h = omega arith
-
--- ---- the samples
-
--- as far as the synthesis goes two decoders are one: what lies past the rings may differ
-record Joined (a : Audio) (m : List Float) (b : Audio) (n : List Float) : Type 0 where
-  ring : a.ring ≡ b.ring
-  rings : (channel : ℕ) → channel < 2 → ring_of channel m ≡ ring_of channel n
-
--- what a call that accepts a frame leaves, by its ring position and granules
-module _ (x : Call) (ok : Accepts x) (p : ℕ) (at : x.state.ring ≡ p) (granules : List (List ℤ)) (is : granules_in x ≡ granules) where
-  memory_is : new_memory x ≡ memory_after (slots_of granules) p x.memory 36
-  memory_is = (accepted_leaves x ok).memory ∙ ap₂ (λ q g. memory_after (slots_of g) q x.memory 36) at is
-
-  output_is : new_output x ≡ output_after (slots_of granules) p x.memory x.output 0 36
-  output_is = (accepted_leaves x ok).output ∙ ap₂ (λ q g. output_after (slots_of g) q x.memory x.output 0 36) at is
-
--- two calls that accept agreeing frames, at one ring position
-module _ {c d : Call} (agree : Agreeing c d) (ring : c.state.ring ≡ d.state.ring) where
-  abbrev f : ℕ → ℕ → List ℤ
-  f = slots_of (granules_in d)
-
-  abbrev lent : Leaves c
-  lent = accepted_leaves c agree.accepts
-
-  abbrev lent' : Leaves d
-  lent' = accepted_leaves d agree.accepts'
-
-  place : Place c.state.ring
-  place = rw (← (before_keeps c).ring) lent.goes.ready.place
-
-  rings_after : (outcome c).state.ring ≡ (outcome d).state.ring
-  rings_after = lent.ring ∙ ap (λ (p : ℕ). position_after p 36) ring ∙ sym lent'.ring
-
-  memories : (half : List Float → List Float)
-      → half (memory_after f c.state.ring c.memory 36) ≡ half (memory_after f c.state.ring d.memory 36) → half (new_memory c) ≡ half (new_memory d)
-  memories half e =
-      ap half (memory_is c agree.accepts c.state.ring refl (granules_in d) (same_granules agree)) ∙ e
-      ∙ sym (ap half (memory_is d agree.accepts' c.state.ring (sym ring) (granules_in d) refl))
-
-  outputs : (i : ℕ)
-      → get_or (output_after f c.state.ring c.memory c.output 0 36) i nan ≡ get_or (output_after f c.state.ring d.memory d.output 0 36) i nan
-      → get_or (new_output c) i nan ≡ get_or (new_output d) i nan
-  outputs i e =
-      ap (λ (o : List Float). get_or o i nan) (output_is c agree.accepts c.state.ring refl (granules_in d) (same_granules agree)) ∙ e
-      ∙ sym (ap (λ (o : List Float). get_or o i nan) (output_is d agree.accepts' c.state.ring (sym ring) (granules_in d) refl))
-
-  -- whatever the memories held, sixteen slots wash it out
-  joined_after : Joined (outcome c).state (new_memory c) (outcome d).state (new_memory d)
-  joined_after =
-      let m = lent.goes.memory_long in
-      let n = lent'.goes.memory_long in
-      record {
-        ring = rings_after;
-        rings = λ channel two.
-            memories (ring_of channel) (ring_washed f f place c.memory d.memory m n 36 (λ _ _ _ _. refl) channel two (omega arith));
-      }
-
-  first_output : (i : ℕ) → 960 ≤ i → i < output_length → get_or (new_output c) i nan ≡ get_or (new_output d) i nan
-  first_output i late l =
-      outputs i
-      (rw (← zero-add i)
-      (output_washed f f place c.memory d.memory lent.goes.memory_long lent'.goes.memory_long 36 (λ _ _ _ _. refl) c.output d.output 0 0
-      lent.goes.output_long lent'.goes.output_long i late l))
-
-  -- where the rings are equal already, every sample is
-  later_output : ((channel : ℕ) → channel < 2 → ring_of channel c.memory ≡ ring_of channel d.memory)
-      → (i : ℕ) → i < output_length → get_or (new_output c) i nan ≡ get_or (new_output d) i nan
-  later_output rings i l =
-      outputs i
-      (rw (← zero-add i)
-      (output_by_rings f c.state.ring c.memory d.memory rings 36 c.output d.output 0 0
-      lent.goes.output_long lent'.goes.output_long i l))
-
-  -- the law without pasts: at one ring position the memories may hold whatever they like
-  pub whatever_the_memories : (channel k : ℕ) → channel < 2 → 481 ≤ k → k ≤ 1152 → sample (new_output c) channel k ≡ sample (new_output d) channel k
-  whatever_the_memories channel k two late last = first_output (2 * (k - 1) + channel) (omega arith) (omega arith)
-
--- ---- the first agreeing frame, whatever came before
-
-module _ {c d : Call} (past : Past c.state c.memory) (past' : Past d.state d.memory) (remainder : c.state.frames % 4 ≡ d.state.frames % 4)
-    (agree : Agreeing c d) where
-  same_ring : c.state.ring ≡ d.state.ring
-  same_ring = ring_by_frames past ∙ ap (λ (r : ℕ). (1024 - 256 * r) % 1024) remainder ∙ sym (ring_by_frames past')
-
-  -- "samples 481 to 1,152 of each channel are equal"
-  pub rings_out : (channel k : ℕ) → channel < 2 → 481 ≤ k → k ≤ 1152 → sample (new_output c) channel k ≡ sample (new_output d) channel k
-  rings_out = whatever_the_memories agree same_ring
-
-  -- "bit for bit"
-  pub rings_out_bit_for_bit : (channel k : ℕ) → channel < 2 → 481 ≤ k → k ≤ 1152
-      → BitForBit (sample (new_output c) channel k) (sample (new_output d) channel k)
-  rings_out_bit_for_bit channel k two late last =
-      equal_values_equal_bits 8259553 (samples_finite past agree.accepts channel k two (omega arith) last)
-      (samples_fit agree.accepts channel k two (omega arith) last) (rings_out channel k two late last)
-
-  begun : Joined (outcome c).state (new_memory c) (outcome d).state (new_memory d)
-  begun = joined_after agree same_ring
-
--- ---- and after it
-
--- a call that accepts no frame: a question about the format, a decode call that gives a number, whatever memory it was lent; and between
--- calls the lent slice may change behind the memory
-pub data Passes (a : Audio) (m : List Float) : Audio → List Float → Type 0 where
-  asks : (s : List ℕ) → Passes a m (format_of s a).state m
-  refuses : (s : List ℕ) (other o : List Float) (number : ℕ) → (decode_of s other o a).answer ≡ AnswerRefused number → Passes a m (decode_of s other o a).state m
-  lends : (more : List Float) → Passes a m a (take memory_length m ++ more)
-
--- two decoders that accepted agreeing frames, and since then, each on its own streams, any calls that accept no frame, and pair by
--- pair further agreeing frames: "with no opening and no other writing between"
-pub data Together : Audio → List Float → Audio → List Float → Type 0 where
-  begin : (c d : Call) → Past c.state c.memory → Past d.state d.memory → c.state.frames % 4 ≡ d.state.frames % 4
-      → Agreeing c d → Together (outcome c).state (new_memory c) (outcome d).state (new_memory d)
-  one_passes : {a b a' : Audio} {m n m' : List Float} → Together a m b n → Passes a m a' m' → Together a' m' b n
-  other_passes : {a b b' : Audio} {m n n' : List Float} → Together a m b n → Passes b n b' n' → Together a m b' n'
-  again : (c d : Call) → Together c.state c.memory d.state d.memory
-      → Agreeing c d → Together (outcome c).state (new_memory c) (outcome d).state (new_memory d)
-
--- such a call is one of a past's, and leaves what the synthesis sees
-passed : {a b : Audio} {m n : List Float} → Past a m → Passes a m b n → Past b n
-passed p (asks s) = asked p s
-passed p (refuses s other o k e) = refused p s other o k e
-passed p (lends more) = relent p more
-
-past_one : {a b : Audio} {m n : List Float} → Together a m b n → Past a m
-past_one (begin c d p q r e) = decoded p c.stream c.output
-past_one (one_passes t x) = passed (past_one t) x
-past_one (other_passes t x) = past_one t
-past_one (again c d t e) = decoded (past_one t) c.stream c.output
-
-past_other : {a b : Audio} {m n : List Float} → Together a m b n → Past b n
-past_other (begin c d p q r e) = decoded q d.stream d.output
-past_other (one_passes t x) = past_other t
-past_other (other_passes t x) = passed (past_other t) x
-past_other (again c d t e) = decoded (past_other t) d.stream d.output
-
-passed_keeps : {a b : Audio} {m n : List Float} → Past a m → Passes a m b n → Joined b n a m
-passed_keeps {a} p (asks s) = record { ring = (question_keeps s a).ring; rings = λ channel two. refl }
-passed_keeps {a} p (refuses s other o k e) =
-    record { ring = (refused_keeps (record { stream = s; memory = other; output = o; state = a }) k e).ring; rings = λ channel two. refl }
-passed_keeps {a} {b} {m} p (lends more) =
-    record { ring = refl; rings = λ channel two. relent_rings m (memory_kept_long p) channel two more }
-
-stay_joined : {a b : Audio} {m n : List Float} → Together a m b n → Joined a m b n
-stay_joined (begin c d p q r e) = begun p q r e
-stay_joined (one_passes t x) =
-    let j = stay_joined t in
-    let k = passed_keeps (past_one t) x in
-    record { ring = k.ring ∙ j.ring; rings = λ channel two. k.rings channel two ∙ j.rings channel two }
-stay_joined (other_passes t x) =
-    let j = stay_joined t in
-    let k = passed_keeps (past_other t) x in
-    record { ring = j.ring ∙ sym k.ring; rings = λ channel two. j.rings channel two ∙ sym (k.rings channel two) }
-stay_joined (again c d t e) = joined_after e (stay_joined t).ring
-
--- "every later sample is equal too"
-module _ {c d : Call} (together : Together c.state c.memory d.state d.memory) (agree : Agreeing c d) where
-  pub every_later_sample : (channel k : ℕ) → channel < 2 → 1 ≤ k → k ≤ 1152 → sample (new_output c) channel k ≡ sample (new_output d) channel k
-  every_later_sample channel k two first last =
-      let j = stay_joined together in
-      later_output agree j.ring j.rings (2 * (k - 1) + channel) (omega arith)
-
-  pub every_later_sample_bit_for_bit : (channel k : ℕ) → channel < 2 → 1 ≤ k → k ≤ 1152
-      → BitForBit (sample (new_output c) channel k) (sample (new_output d) channel k)
-  every_later_sample_bit_for_bit channel k two first last =
-      equal_values_equal_bits 8259553 (samples_finite (past_one together) agree.accepts channel k two first last)
-      (samples_fit agree.accepts channel k two first last) (every_later_sample channel k two first last)

@@ -1,0 +1,4 @@
+pub mod Mono
+pub mod Silence
+pub mod Sharp
+pub mod Promises
