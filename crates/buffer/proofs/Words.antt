@@ -1,18 +1,19 @@
 -- How the machine puts a field together out of 8 bytes at once.
 -- Assumes nothing.
-use Prim.Native.Nat.{ℕ, ◌+◌, ◌-◌, ◌*◌, ◌/◌, ◌%◌, ◌^◌, ◌≤◌, ◌<◌}
+use Prim.Native.Nat.{ℕ, suc, ◌+◌, ◌-◌, ◌*◌, ◌/◌, ◌%◌, ◌^◌, ◌≤◌, ◌<◌}
 use mathlib.Core.Path.{◌≡◌, refl, ap, sym, ◌∙◌}
 use mathlib.Core.List.{List}
 use native.Mathlib.Nat.{lt_of_lt_of_le, le_of_suc-le-suc}
 use native.Mathlib.Omega.{arith}
 use lib.Pow.{pow_mono, shr-shr, shl-shr, high, low, field}
 use lib.ListN.{get_or}
-use Rattle.buffer.specs.Bits.{bits_value}
+use Rattle.buffer.specs.Bits.{bit_at, bits_value}
 use Rattle.buffer.specs.Laws.{split, bits_below, byte_is_bits}
-use Rattle.buffer.specs.Calls.{or_zero}
+use Rattle.buffer.specs.Calls.{taken, or_zero}
 use Rattle.buffer.specs.declared.Reader.{Reader}
-use Rattle.buffer.specs.declared.Read.{Read}
-use Rattle.buffer.specs.declared.Read.TheVariants.{Value, Short, Refused}
+use Rattle.buffer.specs.declared.Taken.{Taken}
+use Rattle.refusal.specs.declared.Refusal.{Refusal}
+use Rattle.std.specs.Prelude.{Result, Ok, Err}
 
 -- 4 bytes
 pub four_bytes : (s : List ℕ) (i : ℕ) → bits_value s (i * 8) 32
@@ -60,11 +61,23 @@ module _ (s : List ℕ) (at n : ℕ) (narrow : n ≤ 32) where
   cut_fits = rw cut (lt_of_lt_of_le (bits_below s at n) (pow_mono narrow))
 
 -- what is no value reads as 0
-pub not_value : (r : Reader) (x : Read) → ((v : ℕ) (n : Reader) → x ≡ Value v n → ⊥) → record { value = 0; next = r } ≡ or_zero r x
-not_value r (Value v n) h = absurd (h v n refl)
-not_value r Short h = refl
-not_value r (Refused n) h = refl
+pub not_value : (r : Reader) (x : Result (Taken ℕ) Refusal) → ((v : Taken ℕ) → x ≡ Ok v → ⊥) → taken 0 r ≡ or_zero r x
+not_value r (Ok v) h = absurd (h v refl)
+not_value r (Err e) h = refl
 
 -- the first bits of a field of at most 32, with the next one: what the machine keeps of it fits
 pub double_fits : (s : List ℕ) (at n v : ℕ) → v ≡ bits_value s at n → n < 32 → v * 2 + 1 < 2 ^ 32
 double_fits s at n v e l = let b : v < 2 ^ 31 = rw e (lt_of_lt_of_le (bits_below s at n) (pow_mono (le_of_suc-le-suc l))) in omega arith
+
+-- no bit, and one bit more
+pub none_yet : (s : List ℕ) (at : ℕ) → 0 ≡ bits_value s at (at - at)
+unfolding bits_value
+none_yet s at = let e : at - at ≡ 0 = omega arith in rw e refl
+
+pub one_more : (s : List ℕ) (at place v b : ℕ) → at ≤ place → v ≡ bits_value s at (place - at)
+    → b ≡ get_or s (place / 8) 0 / 2 ^ (7 - place % 8) % 2 → v * 2 + b ≡ bits_value s at (place + 1 - at)
+unfolding bits_value bit_at
+one_more s at place v b l e f =
+    let more : place + 1 - at ≡ suc (place - at) = omega arith in
+    let here : at + (place - at) ≡ place = omega arith in
+    rw (more, here, e, f) refl

@@ -1,16 +1,16 @@
 -- What the floors above need of the bits and of a field, each stated once.
 -- Assumes nothing.
-use Rattle.std.specs.Prelude.{ℕ, zero, suc, ◌+◌, ◌-◌, ◌*◌, ◌/◌, ◌%◌, ◌^◌, ◌≤◌, ◌<◌, max, ◌≡◌, refl, List, get_or, length, ltb}
+use Rattle.std.specs.Prelude.{ℕ, zero, suc, ◌+◌, ◌-◌, ◌*◌, ◌/◌, ◌%◌, ◌^◌, ◌≤◌, ◌<◌, max, ◌≡◌, refl, List, get_or, length, ltb, Result, Ok, Err}
 use Rattle.std.proofs.Common.{sym, add-zero, add-suc, add_assoc, mod-lt, div-one, mul-one, pow-suc, add-one, arith, pow_pos, shr-shr, lit<, le-ltb, ltb-false}
 use Rattle.std.proofs.Math.Nat.{mod-one, pow-zero}
 use Rattle.std.proofs.lemmas.Nat.{mod-pow-add}
 use Rattle.ground.specs.Tests.{by_test}
 use Rattle.buffer.specs.Bits.{longest_stream, farthest_bit, bit_at, bits_value}
-use Rattle.buffer.specs.Calls.{Fielded, aligned, or_zero, read_of, field_of, reader_at, left}
+use Rattle.buffer.specs.Calls.{Fielded, aligned, taken, or_zero, read_of, field_of, reader_at, left}
 use Rattle.buffer.specs.declared.Reader.{Reader}
-use Rattle.buffer.specs.declared.Field.{Field}
-use Rattle.buffer.specs.declared.Read.{Read}
-use Rattle.buffer.specs.declared.Read.TheVariants.{Value, Short, Refused}
+use Rattle.buffer.specs.declared.Taken.{Taken}
+use Rattle.refusal.specs.declared.Refusal.{Refusal}
+use Rattle.refusal.specs.declared.Refusal.TheVariants.{LongStream, BadState, WideRead, ShortRead}
 
 -- n + k bits are n bits and then k
 pub split : (s : List ℕ) (at n k : ℕ) → bits_value s at (n + k) ≡ bits_value s at n * 2 ^ k + bits_value s (at + n) k
@@ -59,20 +59,20 @@ unfolding field_of read_of
 field_whole s r n h l = simp (le-ltb _ _ h.short, le-ltb _ _ h.near, le-ltb _ _ h.enough, le-ltb _ _ l)
 
 -- what holds of each refusal and of each value holds of a read
-read_cases : (P : Read → Type 0) (s : List ℕ) (r : Reader) (n : ℕ) → ((k : ℕ) → P (Refused k)) → P Short →
-    (r.at.0 ≤ farthest_bit → n ≤ left s r → P (Value (bits_value s r.at.0 n) (reader_at (r.at.0 + n)))) → P (read_of s r n)
+read_cases : (P : Result (Taken ℕ) Refusal → Type 0) (s : List ℕ) (r : Reader) (n : ℕ) → ((e : Refusal) → P (Err e)) →
+    (r.at.0 ≤ farthest_bit → n ≤ left s r → P (Ok (taken (bits_value s r.at.0 n) (reader_at (r.at.0 + n))))) → P (read_of s r n)
 unfolding read_of
-read_cases P s r n refused short whole =
-    by_test P (ltb longest_stream (length s)) _ _ (λ _. refused 8)
-    (λ _. by_test P (ltb farthest_bit r.at.0) _ _ (λ _. refused 10)
-    (λ h. by_test P (ltb 32 n) _ _ (λ _. refused 11)
-    (λ _. by_test P (ltb (left s r) n) _ _ (λ _. short) (λ k. whole (ltb-false _ _ h) (ltb-false _ _ k)))))
+read_cases P s r n refused whole =
+    by_test P (ltb longest_stream (length s)) _ _ (λ _. refused LongStream)
+    (λ _. by_test P (ltb farthest_bit r.at.0) _ _ (λ _. refused BadState)
+    (λ h. by_test P (ltb 32 n) _ _ (λ _. refused WideRead)
+    (λ _. by_test P (ltb (left s r) n) _ _ (λ _. refused ShortRead) (λ k. whole (ltb-false _ _ h) (ltb-false _ _ k)))))
 
 -- a field of n bits is below 2 ^ n
 pub field_small : (s : List ℕ) (r : Reader) (n : ℕ) → (field_of s r n).value < 2 ^ n
 unfolding field_of
 field_small s r n =
-    read_cases (λ x. (or_zero r x).value < 2 ^ n) s r n (λ _. pow_pos n) (pow_pos n) (λ _ _. bits_below s r.at.0 n)
+    read_cases (λ x. (or_zero r x).value < 2 ^ n) s r n (λ _. pow_pos n) (λ _ _. bits_below s r.at.0 n)
 
 -- a reader that went from r to q: not back, not past n bits, nor past the farther of its start and the stream's end
 abbrev pub Moves : List ℕ → Reader → ℕ → Reader → Type 0
@@ -82,7 +82,7 @@ Moves s r n q =
 pub field_moves : (s : List ℕ) (r : Reader) (n : ℕ) → Moves s r n (field_of s r n).next
 unfolding field_of
 field_moves s r n =
-    read_cases (λ x. Moves s r n (or_zero r x).next) s r n (λ _. omega arith) (omega arith) (λ h k. omega arith)
+    read_cases (λ x. Moves s r n (or_zero r x).next) s r n (λ _. omega arith) (λ h k. omega arith)
 
 -- a field that is not 0 was all there
 pub field_read : (s : List ℕ) (r : Reader) (n : ℕ) → 0 < n → ((field_of s r n).value ≡ 0 → ⊥)
@@ -90,9 +90,9 @@ pub field_read : (s : List ℕ) (r : Reader) (n : ℕ) → 0 < n → ((field_of 
 unfolding field_of
 field_read s r n pos =
     read_cases (λ x. ((or_zero r x).value ≡ 0 → ⊥) → ((or_zero r x).next.at.0 ≡ r.at.0 + n) × (r.at.0 + n ≤ 8 * length s)) s r n
-    (λ _ f. absurd (f refl)) (λ f. absurd (f refl)) (λ h k _. (refl, omega arith))
+    (λ _ f. absurd (f refl)) (λ h k _. (refl, omega arith))
 
-pub fielded : (f : Field) (s : List ℕ) (r : Reader) (n : ℕ) → f ≡ field_of s r n → Fielded s r n f
+pub fielded : (f : Taken ℕ) (s : List ℕ) (r : Reader) (n : ℕ) → f ≡ field_of s r n → Fielded s r n f
 fielded f s r n e =
     rw e
     (record {

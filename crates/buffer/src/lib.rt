@@ -2,9 +2,11 @@
 // 01, "From the bytes to a header"; the numbers 8, 10, 11 and 12 of its table.
 #![tactic(auto)]
 
-ghost use Rattle.std.specs.Prelude.{◌≡◌, ◌+◌, ◌-◌, ◌*◌, ◌≤◌, ◌<◌, ◌/◌, ◌%◌, ◌^◌, length};
+ghost use Rattle.std.specs.Prelude.{◌≡◌, ◌+◌, ◌-◌, ◌*◌, ◌≤◌, ◌<◌, ◌/◌, ◌%◌, ◌^◌, length, Ok};
 ghost use Rattle.buffer.specs.Bits.{longest_stream, farthest_bit, bits_value, sync_pair, stop_of, past_of};
-ghost use Rattle.buffer.specs.Calls.{byte_pos_of, byte_after_of, bit_of, reader_at, read_of, has_of, ended_of, align_of, skip_of, Fielded, skip_bytes_of, tell_of, search_of};
+ghost use Rattle.buffer.specs.Calls.{byte_pos_of, byte_after_of, bit_of, reader_at, gate, read_of, has_of, ended_of, align_of, skip_of, Fielded, skip_bytes_of, tell_of, search_of};
+
+use refusal::Refusal;
 
 // In bytes: 01's longest stream.
 pub const LONGEST_STREAM: usize = 16_777_216;
@@ -52,38 +54,11 @@ pub struct Reader {
     pub at: BitIndex,
 }
 
-// `Short` is 01's number 12: more bits were asked for than remain.
+// What a call took from the stream, and the reader after it.
 #[derive(Clone, Copy)]
-pub enum Read {
-    Value(u32, Reader),
-    Short,
-    Refused(u32),
-}
-
-#[derive(Clone, Copy)]
-pub enum Holds {
-    Yes,
-    No,
-    Refused(u32),
-}
-
-#[derive(Clone, Copy)]
-pub enum Moved {
-    To(Reader),
-    Refused(u32),
-}
-
-// How many bytes were passed, and the reader after them.
-#[derive(Clone, Copy)]
-pub enum Skipped {
-    Bytes(usize, Reader),
-    Refused(u32),
-}
-
-#[derive(Clone, Copy)]
-pub enum Told {
-    At(BytePos),
-    Refused(u32),
+pub struct Taken<T> {
+    pub value: T,
+    pub next: Reader,
 }
 
 // `sync` is the byte of the FF, or the stream's length where there is none. `skipped` is how many bytes were passed over, from the first
@@ -100,14 +75,6 @@ pub enum Sync {
         skipped: usize,
         next: Reader,
     },
-    Refused(u32),
-}
-
-// A field's value and the reader after it.
-#[derive(Clone, Copy)]
-pub struct Field {
-    pub value: u32,
-    pub next: Reader,
 }
 
 // How many bits remain from bit `at`: none past the end.
@@ -132,11 +99,8 @@ fn last_bits(s: &[u8], at: usize, count: usize) -> u32
     ensures { result ≡ bits_value s.now at count }
 {
     let mut value: u32 = 0;
-    let mut done: usize = 0;
-    while done < count {
-        let p = at + done;
-        value = value * 2 + bit(s[p / 8], p % 8);
-        done += 1;
+    for place in at..at + count {
+        value = value * 2 + bit(s[place / 8], place % 8);
     }
     value
 }
@@ -241,174 +205,137 @@ impl Reader {
         Reader { at: BitIndex(0) }
     }
 
+    // What each call asks first: 8, a stream that is too long; then 10, a position that is too far.
+    fn admitted(self, s: &[u8]) -> Result<(), Refusal>
+        ensures { result ≡ gate s.now self (Ok tt) }
+    {
+        if LONGEST_STREAM < s.len() {
+            return Err(Refusal::LongStream);
+        }
+        if FARTHEST_BIT < self.at.0 {
+            return Err(Refusal::BadState);
+        }
+        Ok(())
+    }
+
     // Whether `count` more bits are there.
-    pub fn has(self, s: &[u8], count: usize) -> Holds
+    pub fn has(self, s: &[u8], count: usize) -> Result<bool, Refusal>
         ensures { result ≡ has_of s.now self count }
     {
-        let at = self.at.0;
-        if LONGEST_STREAM < s.len() {
-            return Holds::Refused(8);
-        }
-        if FARTHEST_BIT < at {
-            return Holds::Refused(10);
-        }
-        if remaining(s, at) < count {
-            return Holds::No;
-        }
-        Holds::Yes
+        self.admitted(s)?;
+        Ok(count <= remaining(s, self.at.0))
     }
 
     // Whether no bit remains.
-    pub fn has_ended(self, s: &[u8]) -> Holds
+    pub fn has_ended(self, s: &[u8]) -> Result<bool, Refusal>
         ensures { result ≡ ended_of s.now self }
     {
-        let at = self.at.0;
-        if LONGEST_STREAM < s.len() {
-            return Holds::Refused(8);
-        }
-        if FARTHEST_BIT < at {
-            return Holds::Refused(10);
-        }
-        if remaining(s, at) == 0 {
-            return Holds::Yes;
-        }
-        Holds::No
+        self.admitted(s)?;
+        Ok(remaining(s, self.at.0) == 0)
     }
 
     // The next `count` bits as a number, at most 32 of them.
-    pub fn read(self, s: &[u8], count: usize) -> Read
+    pub fn read(self, s: &[u8], count: usize) -> Result<Taken<u32>, Refusal>
         ensures { result ≡ read_of s.now self count }
     {
+        self.admitted(s)?;
         let at = self.at.0;
-        if LONGEST_STREAM < s.len() {
-            return Read::Refused(8);
-        }
-        if FARTHEST_BIT < at {
-            return Read::Refused(10);
-        }
         if 32 < count {
-            return Read::Refused(11);
+            return Err(Refusal::WideRead);
         }
         if remaining(s, at) < count {
-            return Read::Short;
+            return Err(Refusal::ShortRead);
         }
         let value = bits_at(s, at, count);
-        Read::Value(
+        Ok(Taken {
             value,
-            Reader {
+            next: Reader {
                 at: BitIndex(at + count),
             },
-        )
+        })
     }
 
     // A field of `count` bits as the layers above take it: where it is cut off, 0, and the reader stays.
-    pub fn field(self, s: &[u8], count: usize) -> Field
+    pub fn field(self, s: &[u8], count: usize) -> Taken<u32>
         ensures { Fielded s.now self count result }
     {
-        let Read::Value(value, next) = self.read(s, count) else {
-            return Field {
+        let Ok(taken) = self.read(s, count) else {
+            return Taken {
                 value: 0,
                 next: self,
             };
         };
-        Field { value, next }
+        taken
     }
 
     // To the next byte's start.
-    pub fn align(self, s: &[u8]) -> Moved
+    pub fn align(self, s: &[u8]) -> Result<Reader, Refusal>
         ensures { result ≡ align_of s.now self }
     {
-        let at = self.at;
-        if LONGEST_STREAM < s.len() {
-            return Moved::Refused(8);
-        }
-        if FARTHEST_BIT < at.0 {
-            return Moved::Refused(10);
-        }
-        let to = at.byte_after().bit();
-        Moved::To(Reader { at: to })
+        self.admitted(s)?;
+        let at = self.at.byte_after().bit();
+        Ok(Reader { at })
     }
 
     // Past `count` bits, if that many remain; any count is allowed.
-    pub fn skip(self, s: &[u8], count: usize) -> Moved
+    pub fn skip(self, s: &[u8], count: usize) -> Result<Reader, Refusal>
         ensures { result ≡ skip_of s.now self count }
     {
+        self.admitted(s)?;
         let at = self.at.0;
-        if LONGEST_STREAM < s.len() {
-            return Moved::Refused(8);
-        }
-        if FARTHEST_BIT < at {
-            return Moved::Refused(10);
-        }
         if remaining(s, at) < count {
-            return Moved::To(self);
+            return Ok(self);
         }
-        Moved::To(Reader {
+        Ok(Reader {
             at: BitIndex(at + count),
         })
     }
 
     // The byte position, rounded down.
-    pub fn tell(self, s: &[u8]) -> Told
+    pub fn tell(self, s: &[u8]) -> Result<BytePos, Refusal>
         ensures { result ≡ tell_of s.now self }
     {
-        let at = self.at;
-        if LONGEST_STREAM < s.len() {
-            return Told::Refused(8);
-        }
-        if FARTHEST_BIT < at.0 {
-            return Told::Refused(10);
-        }
-        let to = at.byte();
-        Told::At(to)
+        self.admitted(s)?;
+        Ok(self.at.byte())
     }
 
-    // To the next byte's start, and past the bytes that equal `v`.
-    pub fn skip_bytes(self, s: &[u8], v: u8) -> Skipped
+    // To the next byte's start, and past the bytes that equal `v`: how many.
+    pub fn skip_bytes(self, s: &[u8], v: u8) -> Result<Taken<usize>, Refusal>
         ensures { result ≡ skip_bytes_of s.now self v }
     {
-        let at = self.at;
-        if LONGEST_STREAM < s.len() {
-            return Skipped::Refused(8);
-        }
-        if FARTHEST_BIT < at.0 {
-            return Skipped::Refused(10);
-        }
-        let from = at.byte_after();
+        self.admitted(s)?;
+        let from = self.at.byte_after();
         let to = first_other(s, from, v);
-        let next = to.bit();
-        Skipped::Bytes(to.0 - from.0, Reader { at: next })
+        let at = to.bit();
+        Ok(Taken {
+            value: to.0 - from.0,
+            next: Reader { at },
+        })
     }
 
     // To three bits into the second byte of the first sync pair, searched from the byte that holds the position. 02, E2: with the bytes
     // that were passed over.
-    pub fn find_frame_sync(self, s: &[u8]) -> Sync
+    pub fn find_frame_sync(self, s: &[u8]) -> Result<Sync, Refusal>
         ensures { result ≡ search_of s.now self }
     {
-        let at = self.at;
-        if LONGEST_STREAM < s.len() {
-            return Sync::Refused(8);
-        }
-        if FARTHEST_BIT < at.0 {
-            return Sync::Refused(10);
-        }
-        let from = at.byte();
+        self.admitted(s)?;
+        let from = self.at.byte();
         let found = first_pair(s, from);
         let after = BytePos(found.0 + 1);
         let next = after.bit();
         if found.0 < last_of(s) {
-            return Sync::Found {
+            return Ok(Sync::Found {
                 sync: found,
                 skipped: found.0 - from.0,
                 next: Reader {
                     at: BitIndex(next.0 + 3),
                 },
-            };
+            });
         }
-        Sync::Missing {
+        Ok(Sync::Missing {
             sync: BytePos(s.len()),
             skipped: bytes_from(s, from),
             next: Reader { at: next },
-        }
+        })
     }
 }

@@ -1,21 +1,15 @@
-use mathlib.Core.Path.{ap}
-use native.Mathlib.Omega.{arith}
-use Rattle.ground.specs.Tests.{tests}
-use Rattle.buffer.specs.Calls.{align_of}
-use borrow.Author.Rules.{rules}
+use mathlib.Core.Path.{ap, ◌∙◌}
+use Rattle.std.specs.Prelude.{Ok}
+use Rattle.buffer.specs.Calls.{bit_of, align_of}
+use Rattle.buffer.proofs.Gate.{goes_on, refuses}
 use Rattle.buffer.proofs.Reader.align.Goals as goal
 
-pub returns-then-s-gt-LONGEST_STREAM : goal.returns-then-s-gt-LONGEST_STREAM
+pub returns-in_err-admitted : goal.returns-in_err-admitted
 unfolding align_of
-returns-then-s-gt-LONGEST_STREAM c = search (rules, tests)
-
-pub returns-then-at-gt-FARTHEST_BIT : goal.returns-then-at-gt-FARTHEST_BIT
-unfolding align_of
-returns-then-at-gt-FARTHEST_BIT c = search (rules, tests)
-
-pub bit-to-requires : goal.bit-to-requires
-bit-to-requires c = omega (arith, ap (λ p. p.0) c.byte_after.ensures)
+returns-in_err-admitted c = refuses c.args.s.now c.args.self _ c.from_residual.ensures c.admitted.ensures c.in_err-admitted.was
 
 pub returns : goal.returns
 unfolding align_of
-returns c = search (rules, tests, c.bit-to.ensures, c.byte_after.ensures)
+returns c =
+    ap (λ i. Ok (record { at = i })) (c.bit-at.ensures ∙ ap bit_of c.byte_after.ensures)
+    ∙ (goes_on c.args.s.now c.args.self _ c.admitted.ensures c.in_ok-admitted.was).2

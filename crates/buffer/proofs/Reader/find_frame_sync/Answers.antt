@@ -6,12 +6,13 @@ use native.Mathlib.Omega.{arith}
 use borrow.Author.Rules.{rules}
 use borrow.Author.Tests.{lt-ltb, le-ltb}
 use lib.ListN.{length}
-use Rattle.ground.specs.Tests.{tests}
+use Rattle.std.specs.Prelude.{Ok}
 use Rattle.buffer.specs.Bits.{longest_stream, farthest_bit, stop_of}
 use Rattle.buffer.specs.Calls.{byte_pos_of, reader_at, byte_at, search_of}
 use Rattle.buffer.specs.declared.BytePos.{BytePos}
 use Rattle.buffer.specs.declared.Reader.{Reader}
 use Rattle.buffer.specs.declared.Sync.TheVariants.{Found, Missing}
+use Rattle.buffer.proofs.Gate.{admits, refuses}
 use Rattle.buffer.proofs.Reader.find_frame_sync.Goals as goal
 
 -- where the search stopped, from the byte that holds the bit
@@ -21,27 +22,23 @@ stopped s r from stop e f = e ∙ ap (λ p. stop_of s p.0) f
 -- the answer by where the search stopped
 module _ (s : List ℕ) (r : Reader) (stop : ℕ) (short : length s ≤ longest_stream) (near : r.at.0 ≤ farthest_bit)
     (is : stop ≡ stop_of s (r.at.0 / 8)) where
-  found : stop < length s - 1 → Found (byte_at stop) (stop - r.at.0 / 8) (reader_at ((stop + 1) * 8 + 3)) ≡ search_of s r
+  found : stop < length s - 1 → Ok (Found (byte_at stop) (stop - r.at.0 / 8) (reader_at ((stop + 1) * 8 + 3))) ≡ search_of s r
   unfolding search_of
   found l = rw is (simp (le-ltb _ _ short, le-ltb _ _ near, lt-ltb _ _ (rw is at l)))
 
-  missing : length s - 1 ≤ stop → Missing (byte_at (length s)) (length s - r.at.0 / 8) (reader_at ((stop + 1) * 8)) ≡ search_of s r
+  missing : length s - 1 ≤ stop → Ok (Missing (byte_at (length s)) (length s - r.at.0 / 8) (reader_at ((stop + 1) * 8))) ≡ search_of s r
   unfolding search_of
   missing l = rw is (simp (le-ltb _ _ short, le-ltb _ _ near, le-ltb _ _ (rw is at l)))
 
-pub returns-then-s-gt-LONGEST_STREAM : goal.returns-then-s-gt-LONGEST_STREAM
+pub returns-in_err-admitted : goal.returns-in_err-admitted
 unfolding search_of
-returns-then-s-gt-LONGEST_STREAM c = search (rules, tests)
-
-pub returns-then-at-gt-FARTHEST_BIT : goal.returns-then-at-gt-FARTHEST_BIT
-unfolding search_of
-returns-then-at-gt-FARTHEST_BIT c = search (rules, tests)
+returns-in_err-admitted c = refuses c.args.s.now c.args.self _ c.from_residual.ensures c.admitted.ensures c.in_err-admitted.was
 
 pub overflow_add-after : goal.overflow_add-after
-overflow_add-after c = omega (arith, ap (λ p. p.0) c.byte-from.ensures)
+overflow_add-after c = omega (arith, ap (λ p. p.0) c.byte-from.ensures, admits c.args.s.now c.args.self c.admitted.ensures c.in_ok-admitted.was)
 
 pub bit-next-requires : goal.bit-next-requires
-bit-next-requires c = omega (arith, ap (λ p. p.0) c.byte-from.ensures)
+bit-next-requires c = omega (arith, ap (λ p. p.0) c.byte-from.ensures, admits c.args.s.now c.args.self c.admitted.ensures c.in_ok-admitted.was)
 
 pub last_of-requires : goal.last_of-requires
 last_of-requires c = search rules
@@ -56,23 +53,24 @@ overflow_add-result c =
       ap (λ p. p.0) c.bit-next.ensures,
       c.first_pair-found.ensures,
       ap (λ p. p.0) c.byte-from.ensures,
-      c.if-at-gt-FARTHEST_BIT.false,
-      c.if-s-gt-LONGEST_STREAM.false,
+      admits c.args.s.now c.args.self c.admitted.ensures c.in_ok-admitted.was,
     )
 
 pub returns-then-found-last_of : goal.returns-then-found-last_of
 returns-then-found-last_of c =
     let stop = c.first_pair-found.result in
-    ap (λ b. Found stop (stop.0 - c.byte-from.result.0) (reader_at (b.0 + 3))) c.bit-next.ensures
-    ∙ ap (λ p. Found stop (stop.0 - p.0) (reader_at ((stop.0 + 1) * 8 + 3))) c.byte-from.ensures
-    ∙ found _ _ _ c.if-s-gt-LONGEST_STREAM.false c.if-at-gt-FARTHEST_BIT.false (stopped c.args.s.now c.args.self _ _ c.first_pair-found.ensures.is c.byte-from.ensures)
+    let on = admits c.args.s.now c.args.self c.admitted.ensures c.in_ok-admitted.was in
+    ap (λ b. Ok (Found stop (stop.0 - c.byte-from.result.0) (reader_at (b.0 + 3)))) c.bit-next.ensures
+    ∙ ap (λ p. Ok (Found stop (stop.0 - p.0) (reader_at ((stop.0 + 1) * 8 + 3)))) c.byte-from.ensures
+    ∙ found _ _ _ on.0 on.1 (stopped c.args.s.now c.args.self _ _ c.first_pair-found.ensures.is c.byte-from.ensures)
     (rw c.last_of.ensures at c.if-found-last_of.true)
 
 pub returns : goal.returns
 returns c =
     let s = c.args.s.now in
-    ap (λ b. Missing (byte_at (length s)) c.bytes_from.result (record { at = b })) c.bit-next.ensures
-    ∙ ap (λ k. Missing (byte_at (length s)) k (reader_at ((c.first_pair-found.result.0 + 1) * 8)))
+    let on = admits c.args.s.now c.args.self c.admitted.ensures c.in_ok-admitted.was in
+    ap (λ b. Ok (Missing (byte_at (length s)) c.bytes_from.result (record { at = b }))) c.bit-next.ensures
+    ∙ ap (λ k. Ok (Missing (byte_at (length s)) k (reader_at ((c.first_pair-found.result.0 + 1) * 8))))
     (c.bytes_from.ensures ∙ ap (λ p. length s - p.0) c.byte-from.ensures)
-    ∙ missing _ _ _ c.if-s-gt-LONGEST_STREAM.false c.if-at-gt-FARTHEST_BIT.false (stopped c.args.s.now c.args.self _ _ c.first_pair-found.ensures.is c.byte-from.ensures)
+    ∙ missing _ _ _ on.0 on.1 (stopped c.args.s.now c.args.self _ _ c.first_pair-found.ensures.is c.byte-from.ensures)
     (rw c.last_of.ensures at c.if-found-last_of.false)

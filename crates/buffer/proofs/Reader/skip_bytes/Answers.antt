@@ -1,28 +1,20 @@
 use mathlib.Core.Path.{ap}
 use native.Mathlib.Omega.{arith}
+use borrow.Author.Rules.{rules}
 use Rattle.ground.specs.Tests.{tests}
 use Rattle.buffer.specs.Calls.{skip_bytes_of}
-use borrow.Author.Rules.{rules}
+use Rattle.buffer.proofs.Gate.{admits, refuses}
 use Rattle.buffer.proofs.Reader.skip_bytes.Goals as goal
 
-pub returns-then-s-gt-LONGEST_STREAM : goal.returns-then-s-gt-LONGEST_STREAM
+pub returns-in_err-admitted : goal.returns-in_err-admitted
 unfolding skip_bytes_of
-returns-then-s-gt-LONGEST_STREAM c = search (rules, tests)
+returns-in_err-admitted c = refuses c.args.s.now c.args.self _ c.from_residual.ensures c.admitted.ensures c.in_err-admitted.was
 
-pub returns-then-at-gt-FARTHEST_BIT : goal.returns-then-at-gt-FARTHEST_BIT
-unfolding skip_bytes_of
-returns-then-at-gt-FARTHEST_BIT c = search (rules, tests)
-
-pub bit-next-requires : goal.bit-next-requires
-bit-next-requires c = omega (arith, ap (λ p. p.0) c.byte_after-from.ensures)
+pub bit-at-requires : goal.bit-at-requires
+bit-at-requires c = omega (arith, ap (λ p. p.0) c.byte_after-from.ensures, admits c.args.s.now c.args.self c.admitted.ensures c.in_ok-admitted.was)
 
 pub returns : goal.returns
 unfolding skip_bytes_of
 returns c =
-    search (
-      rules,
-      tests,
-      c.bit-next.ensures,
-      c.first_other-to.ensures.is,
-      ap (λ p. p.0) c.byte_after-from.ensures,
-    )
+    let on = admits c.args.s.now c.args.self c.admitted.ensures c.in_ok-admitted.was in
+    search (rules, tests, c.bit-at.ensures, c.first_other-to.ensures.is, ap (λ p. p.0) c.byte_after-from.ensures, on.0, on.1)

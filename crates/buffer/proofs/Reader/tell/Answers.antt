@@ -1,16 +1,13 @@
-use Rattle.ground.specs.Tests.{tests}
+use mathlib.Core.Path.{ap, ◌∙◌}
+use Rattle.std.specs.Prelude.{Ok}
 use Rattle.buffer.specs.Calls.{tell_of}
-use borrow.Author.Rules.{rules}
+use Rattle.buffer.proofs.Gate.{goes_on, refuses}
 use Rattle.buffer.proofs.Reader.tell.Goals as goal
 
-pub returns-then-s-gt-LONGEST_STREAM : goal.returns-then-s-gt-LONGEST_STREAM
+pub returns-in_err-admitted : goal.returns-in_err-admitted
 unfolding tell_of
-returns-then-s-gt-LONGEST_STREAM c = search (rules, tests)
-
-pub returns-then-at-gt-FARTHEST_BIT : goal.returns-then-at-gt-FARTHEST_BIT
-unfolding tell_of
-returns-then-at-gt-FARTHEST_BIT c = search (rules, tests)
+returns-in_err-admitted c = refuses c.args.s.now c.args.self _ c.from_residual.ensures c.admitted.ensures c.in_err-admitted.was
 
 pub returns : goal.returns
 unfolding tell_of
-returns c = search (rules, tests, c.byte-to.ensures)
+returns c = ap Ok c.byte.ensures ∙ (goes_on c.args.s.now c.args.self _ c.admitted.ensures c.in_ok-admitted.was).2
