@@ -18,7 +18,7 @@ use Rattle.ground.specs.Entries.{entry}
 use Rattle.ground.specs.Stores.{three}
 use Rattle.ground.specs.Upto.{upto, below, below2, and_left, and_right, or_left}
 use Rattle.buffer.specs.declared.Reader.{Reader}
-use Rattle.grammar.specs.Reads.{Reads, done, ask, ◌>>=◌, ran, run}
+use Rattle.grammar.specs.Reads.{Reads, done, ask, ◌>>=◌, taken, run}
 use Rattle.grammar.specs.Run.{run_bind}
 use Rattle.tables.specs.Standard.{Table, B2a, B2b, B2c, B2d, row_of, rows_of, sblimit, classes, quantisation_of, levels_of, code_bits_of, grouped_of}
 use Rattle.tables.specs.Source.{step4, source_row_of, quantiser_of}
@@ -450,7 +450,7 @@ rest_related t mono {b} {b'} w quant a both =
 -- The frame of the standard, read by the port: to the same bit, and 01's formulas over the standard's fields and codes
 pub frame_by_bounds : (t : Table) {mono : Bool} {b b' : ℕ} → Bounds t mono b b' → (s : List ℕ) (r : Reader)
     → let x = run (audio_data_by replaced t (cond mono 1 2) b') s r in
-    run (frame_of mono (number_of t) b (sblimit t)) s r ≡ ran (made_by01 replaced t (cond mono 1 2) b' x.value) x.next
+    run (frame_of mono (number_of t) b (sblimit t)) s r ≡ taken (made_by01 replaced t (cond mono 1 2) b' x.value) x.next
 unfolding audio_data_by frame_of side_of
 frame_by_bounds t {mono} {b} {b'} w s r =
     let port = allocations_of (number_of t) b (sblimit t) (replicate 64 0) in
@@ -466,4 +466,4 @@ frame_by_bounds t {mono} {b} {b'} w s r =
     run_bind _ granular s r
     ∙ ap (λ z. run (granular z.value) s z.next) (run_bind _ (rest mono b (sblimit t)) s r)
     ∙ sym (run_bind (rest mono b (sblimit t) ours.value) granular s ours.next)
-    ∙ ap₂ ran (second.value ∙ ap (λ z. made_by01 replaced t (channels mono) b' z.value) on) (second.next ∙ ap (λ z. z.next) on)
+    ∙ ap₂ taken (second.value ∙ ap (λ z. made_by01 replaced t (channels mono) b' z.value) on) (second.next ∙ ap (λ z. z.next) on)

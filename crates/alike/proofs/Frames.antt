@@ -7,7 +7,7 @@ use Rattle.std.proofs.Math.Path.{◌≡◌}
 use Rattle.std.specs.Prelude.{eqb}
 use mathlib.Core.List.{List}
 use Rattle.buffer.specs.declared.Reader.{Reader}
-use Rattle.grammar.specs.Reads.{ran, run}
+use Rattle.grammar.specs.Reads.{taken, run}
 use Rattle.tables.specs.Standard.{sblimit}
 use Rattle.tables.specs.Differences.{number_of}
 use Rattle.header.specs.Header.{bound_by}
@@ -26,6 +26,6 @@ pub the_standards_frame : (mode extension index frequency : ℕ) → extension <
     → let t = allocation_table mode index frequency in
     let x = run (audio_data_over replaced mode extension index frequency) s r in
     run (frame_of (eqb mode 3) (number_of t) (cut_of (bound_by mode extension) (sblimit t)) (sblimit t)) s r
-    ≡ ran (samples_by01 replaced mode extension index frequency x.value) x.next
+    ≡ taken (samples_by01 replaced mode extension index frequency x.value) x.next
 the_standards_frame mode extension index frequency l =
     let t = allocation_table mode index frequency in frame_by_bounds t (the_standards_bound mode extension t l)

@@ -8,7 +8,7 @@ use Rattle.buffer.specs.Bits.{longest_stream, bits_value}
 use Rattle.buffer.specs.Calls.{reader_at, field_of}
 use Rattle.buffer.specs.Laws.{split, bits_below, field_whole}
 use Rattle.buffer.specs.declared.Reader.{Reader}
-use Rattle.buffer.specs.declared.Field.{Field}
+use Rattle.buffer.specs.declared.Taken.{Taken}
 use Rattle.tables.specs.Standard.{kbps_of, sblimit}
 use Rattle.header.specs.Header.{size_of}
 use Rattle.header.specs.Attempts.{version, layer, protection, bitrate, samplerate, padding, mode, extension, flags, after_check, format_by, data_size as size_by}
@@ -65,52 +65,52 @@ abbrev pub after_sync : ℕ → Reader
 after_sync byte = reader_at (byte * 8 + 11)
 
 -- n bits, k bits on from a byte
-abbrev pub bits_at : List ℕ → ℕ → ℕ → ℕ → Field
+abbrev pub bits_at : List ℕ → ℕ → ℕ → ℕ → Taken ℕ
 bits_at s byte k n = record { value = bits_value s (byte * 8 + k) n; next = reader_at (byte * 8 + (k + n)) }
 
 module _ (s : List ℕ) (byte : ℕ) (short : length s ≤ longest_stream) where
   pub field : (k n : ℕ) → 8 * byte + (k + n) ≤ 8 * length s → n ≤ 32 → field_of s (reader_at (byte * 8 + k)) n ≡ bits_at s byte k n
   field k n h l =
       field_whole s (reader_at (byte * 8 + k)) n (record { short = short; near = omega arith; enough = omega arith }) l
-      ∙ ap {B = Field} (λ (x : ℕ). record { value = bits_value s (byte * 8 + k) n; next = reader_at x }) (omega arith)
+      ∙ ap {B = Taken ℕ} (λ (x : ℕ). record { value = bits_value s (byte * 8 + k) n; next = reader_at x }) (omega arith)
 
   module _ (room : 8 * byte + 32 ≤ 8 * length s) where
     pub version_is : version s (after_sync byte) ≡ bits_at s byte 11 2
     version_is = field 11 2 (omega arith) (omega arith)
 
     pub layer_is : layer s (after_sync byte) ≡ bits_at s byte 13 2
-    layer_is = ap (λ (z : Field). field_of s z.next 2) version_is ∙ field 13 2 (omega arith) (omega arith)
+    layer_is = ap (λ (z : Taken ℕ). field_of s z.next 2) version_is ∙ field 13 2 (omega arith) (omega arith)
 
     protection_is : protection s (after_sync byte) ≡ bits_at s byte 15 1
-    protection_is = ap (λ (z : Field). field_of s z.next 1) layer_is ∙ field 15 1 (omega arith) (omega arith)
+    protection_is = ap (λ (z : Taken ℕ). field_of s z.next 1) layer_is ∙ field 15 1 (omega arith) (omega arith)
 
     pub bitrate_is : bitrate s (after_sync byte) ≡ bits_at s byte 16 4
-    bitrate_is = ap (λ (z : Field). field_of s z.next 4) protection_is ∙ field 16 4 (omega arith) (omega arith)
+    bitrate_is = ap (λ (z : Taken ℕ). field_of s z.next 4) protection_is ∙ field 16 4 (omega arith) (omega arith)
 
     pub samplerate_is : samplerate s (after_sync byte) ≡ bits_at s byte 20 2
-    samplerate_is = ap (λ (z : Field). field_of s z.next 2) bitrate_is ∙ field 20 2 (omega arith) (omega arith)
+    samplerate_is = ap (λ (z : Taken ℕ). field_of s z.next 2) bitrate_is ∙ field 20 2 (omega arith) (omega arith)
 
     padding_is : padding s (after_sync byte) ≡ bits_at s byte 22 1
-    padding_is = ap (λ (z : Field). field_of s z.next 1) samplerate_is ∙ field 22 1 (omega arith) (omega arith)
+    padding_is = ap (λ (z : Taken ℕ). field_of s z.next 1) samplerate_is ∙ field 22 1 (omega arith) (omega arith)
 
     pub mode_is : mode s (after_sync byte) ≡ bits_at s byte 24 2
     mode_is =
-        ap (λ (z : Field). field_of s (field_of s z.next 1).next 2) padding_is
-        ∙ ap (λ (z : Field). field_of s z.next 2) (field 23 1 (omega arith) (omega arith))
+        ap (λ (z : Taken ℕ). field_of s (field_of s z.next 1).next 2) padding_is
+        ∙ ap (λ (z : Taken ℕ). field_of s z.next 2) (field 23 1 (omega arith) (omega arith))
         ∙ field 24 2 (omega arith) (omega arith)
 
     extension_is : extension s (after_sync byte) ≡ bits_at s byte 26 2
-    extension_is = ap (λ (z : Field). field_of s z.next 2) mode_is ∙ field 26 2 (omega arith) (omega arith)
+    extension_is = ap (λ (z : Taken ℕ). field_of s z.next 2) mode_is ∙ field 26 2 (omega arith) (omega arith)
 
     flags_is : flags s (after_sync byte) ≡ bits_at s byte 28 4
-    flags_is = ap (λ (z : Field). field_of s z.next 4) extension_is ∙ field 28 4 (omega arith) (omega arith)
+    flags_is = ap (λ (z : Taken ℕ). field_of s z.next 4) extension_is ∙ field 28 4 (omega arith) (omega arith)
 
     size_is : size_by s (after_sync byte) ≡ data_size s byte
     size_is =
-        let b = ap (λ (z : Field). z.value) bitrate_is in
-        let f = ap (λ (z : Field). z.value) samplerate_is in
-        let p = ap (λ (z : Field). z.value) padding_is in
-        let v = ap (λ (z : Field). z.value) protection_is in
+        let b = ap (λ (z : Taken ℕ). z.value) bitrate_is in
+        let f = ap (λ (z : Taken ℕ). z.value) samplerate_is in
+        let p = ap (λ (z : Taken ℕ). z.value) padding_is in
+        let v = ap (λ (z : Taken ℕ). z.value) protection_is in
         let e : size_by s (after_sync byte)
         ≡ size_of (bitrate_index s byte - 1) (sampling_frequency s byte) (padding_bit s byte) (eqb (protection_bit s byte) 0) = cc in
         e ∙ same_size (bitrate_index s byte) (sampling_frequency s byte) (padding_bit s byte) (protection_bit s byte)
@@ -118,9 +118,9 @@ module _ (s : List ℕ) (byte : ℕ) (short : length s ≤ longest_stream) where
     pub says : (reading : Reading) → Says s byte (format_by s (after_sync byte) reading) (size_by s (after_sync byte))
     says reading =
         record {
-          samplerate = ap (λ (z : Field). z.value) samplerate_is;
-          bitrate = ap (λ (z : Field). z.value - 1) bitrate_is;
-          mode = ap (λ (z : Field). z.value) mode_is;
+          samplerate = ap (λ (z : Taken ℕ). z.value) samplerate_is;
+          bitrate = ap (λ (z : Taken ℕ). z.value - 1) bitrate_is;
+          mode = ap (λ (z : Taken ℕ). z.value) mode_is;
           bound = rw (extension_is, mode_is) (the_standards_bound (mode_bits s byte) (mode_extension s byte) _ (bits_below s (byte * 8 + 26) 2));
           size = size_is;
         }
@@ -130,7 +130,7 @@ module _ (s : List ℕ) (byte : ℕ) (short : length s ≤ longest_stream) where
     next_is more =
         rw (flags_is, protection_is)
         (by_test (λ (r : Reader). r ≡ reader_at (data_bit s byte)) (eqb (protection_bit s byte) 0) _ _
-        (λ e. ap (λ (z : Field). z.next) (field 32 16 (omega arith) (omega arith)) ∙ ap reader_at (rw e (omega arith)))
+        (λ e. ap (λ (z : Taken ℕ). z.next) (field 32 16 (omega arith) (omega arith)) ∙ ap reader_at (rw e (omega arith)))
         (λ e. ap reader_at (rw e (omega arith))))
 
   -- twelve ones and ID 1 are eleven ones and a "version" of 3

@@ -8,7 +8,7 @@ use mathlib.Core.List.{List, [], ◌∷◌, ◌++◌}
 use Rattle.std.proofs.Math.ListN.{get_or}
 use Rattle.ground.specs.Tests.{by_test}
 use Rattle.buffer.specs.declared.Reader.{Reader}
-use Rattle.grammar.specs.Reads.{Reads, done, ask, ◌>>=◌, Ran, ran, run}
+use Rattle.grammar.specs.Reads.{Reads, done, ask, ◌>>=◌, Taken, taken, run}
 use Rattle.grammar.specs.Run.{run_bind}
 use Rattle.tables.specs.Standard.{Table, steps_of, sblimit}
 use Rattle.tables.specs.Differences.{differs_at}
@@ -87,7 +87,7 @@ reads_allocations : (steps : Steps) (t : Table) (channels bound : ℕ) (s : List
     → (run (audio_data_by steps t channels bound) s r).value.allocation ≡ (run (allocations t channels bound) s r).value
 unfolding audio_data_by after_allocations run
 reads_allocations steps t channels bound s r =
-    ap (λ (z : Ran AudioFields). z.value.allocation)
+    ap (λ (z : Taken AudioFields). z.value.allocation)
     (run_bind (allocations t channels bound) (after_allocations steps t channels bound) s r
     ∙ run_bind _ _ s _ ∙ run_bind _ _ s _ ∙ run_bind _ _ s _)
 
@@ -100,7 +100,7 @@ module _ (t : Table) (channels bound : ℕ) (within : bound ≤ sblimit t) (s : 
       let none = subst (Unlisted t) (reads_allocations steps_of t channels bound s r) clean in
       let m = related_run ◌≡◌ _ _ (same_after t channels bound within a.value none) s a.next in
       run_bind (allocations t channels bound) (after_allocations replaced t channels bound) s r
-      ∙ ap₂ ran m.value m.next
+      ∙ ap₂ taken m.value m.next
       ∙ sym (run_bind (allocations t channels bound) (after_allocations steps_of t channels bound) s r)
 
   same_samples : let x = (run (audio_data_by steps_of t channels bound) s r).value in made_by01 replaced t channels bound x ≡ made_by01 steps_of t channels bound x

@@ -17,7 +17,7 @@ use Rattle.buffer.specs.Laws.{split, bits_below, in_byte, byte_is_bits, field_wh
 use Rattle.buffer.specs.PairLaws.{pair_ones}
 use Rattle.buffer.specs.declared.BytePos.{BytePos}
 use Rattle.buffer.specs.declared.Reader.{Reader}
-use Rattle.buffer.specs.declared.Field.{Field}
+use Rattle.buffer.specs.declared.Taken.{Taken}
 use Rattle.readings.specs.Readings.{strict}
 use Rattle.header.specs.Header.{refusal, header_of}
 use Rattle.header.specs.Accepted.{SameFormat}
@@ -93,7 +93,7 @@ module _ (s : List ℕ) (bytes : (j : ℕ) → get_or s j 0 < 256) (r : Reader) 
       ap (λ (k : ℕ). field_of s (reader_at k) 11) none ∙ field s tried short 0 11 (omega (arith, tried_before)) (omega arith)
 
   eleven_value : (eleven_bits s r).value ≡ bits_value s (tried * 8) 11
-  eleven_value = ap (λ (z : Field). z.value) eleven_is ∙ ap (λ (k : ℕ). bits_value s k 11) (omega arith)
+  eleven_value = ap (λ (z : Taken ℕ). z.value) eleven_is ∙ ap (λ (k : ℕ). bits_value s k 11) (omega arith)
 
   -- in place, or behind a search that begins one byte on
   found : Synced s r (byte_at byte) (after_sync byte)
@@ -105,11 +105,11 @@ module _ (s : List ℕ) (bytes : (j : ℕ) → get_or s j 0 < 256) (r : Reader) 
 
       go : Dec (tried ≡ byte) → Synced s r (byte_at byte) (after_sync byte)
       go (yes e) =
-          there (in_place (eleven_value ∙ rw e (eleven_ones s byte short fields))) e (ap (λ (z : Field). z.next) eleven_is ∙ ap after_sync e)
+          there (in_place (eleven_value ∙ rw e (eleven_ones s byte short fields))) e (ap (λ (z : Taken ℕ). z.next) eleven_is ∙ ap after_sync e)
       go (no n) =
           let w = first_within (other_at s 0) (length s - start) start in
           let before : tried < byte = omega (arith, tried_before) in
-          let next : (eleven_bits s r).next.at.0 ≡ tried * 8 + 11 = ap (λ (z : Field). z.next.at.0) eleven_is in
+          let next : (eleven_bits s r).next.at.0 ≡ tried * 8 + 11 = ap (λ (z : Taken ℕ). z.next.at.0) eleven_is in
           let from : (eleven_bits s r).next.at.0 / 8 ≡ tried + 1 = omega arith in
           let pair : pair_at s byte ≡ true = rw (eq-eqb _ _ first_byte, eq-eqb _ _ second_byte) in
           let stops : stop s r ≡ byte =
@@ -121,12 +121,12 @@ module _ (s : List ℕ) (bytes : (j : ℕ) → get_or s j 0 < 256) (r : Reader) 
   given : BitrateGiven s (after_sync byte)
   given =
       let thirty : 8 * byte + 32 ≤ 8 * length s = omega arith in
-      let b = ap (λ (z : Field). z.value) (bitrate_is s byte short thirty) in
+      let b = ap (λ (z : Taken ℕ). z.value) (bitrate_is s byte short thirty) in
       record {
         ident =
             record {
-              version_3 = ap (λ (z : Field). z.value) (version_is s byte short thirty) ∙ version_3 s byte short fields;
-              layer_2 = ap (λ (z : Field). z.value) (layer_is s byte short thirty) ∙ fields.layer;
+              version_3 = ap (λ (z : Taken ℕ). z.value) (version_is s byte short thirty) ∙ version_3 s byte short fields;
+              layer_2 = ap (λ (z : Taken ℕ). z.value) (layer_is s byte short thirty) ∙ fields.layer;
             };
         not_free = λ e. omega (arith, fields.bitrate_least);
         not_forbidden = λ e. omega (arith, fields.bitrate_most);
@@ -142,7 +142,7 @@ module _ (s : List ℕ) (bytes : (j : ℕ) → get_or s j 0 < 256) (r : Reader) 
   enough = let begins = reaches.from in omega arith
 
   rate : (samplerate s (after_sync byte)).value ≡ 3 → ⊥
-  rate e = omega (arith, fields.frequency, ap (λ (z : Field). z.value) (samplerate_is s byte short thirty))
+  rate e = omega (arith, fields.frequency, ap (λ (z : Taken ℕ). z.value) (samplerate_is s byte short thirty))
 
   -- a pair that the standard does not have: refused behind the mode, 26 bits from the FF
   pub not_permitted_is_13 : (known : Format) → strict known.reading ≡ true → permitted (mode_bits s byte) (bitrate_index s byte) ≡ false
@@ -150,7 +150,7 @@ module _ (s : List ℕ) (bytes : (j : ℕ) → get_or s j 0 < 256) (r : Reader) 
   not_permitted_is_13 known chosen none =
       let pair = not_permitted_is_refused s byte short thirty fields.bitrate_least fields.bitrate_most known.reading chosen none in
       sym ((attempt_table s r short near known).only (thirteen enough found given rate pair)).0
-      ∙ ap (λ (z : Field). refusal 13 (byte_at byte) z.next) (mode_is s byte short thirty)
+      ∙ ap (λ (z : Taken ℕ). refusal 13 (byte_at byte) z.next) (mode_is s byte short thirty)
 
   pub the_standards_header : (known : Format) → Permits known.reading s byte → Follows known s byte → AcceptedAt s r byte known
   the_standards_header known permits follows =
@@ -196,7 +196,7 @@ module _ (s : List ℕ) (short : length s ≤ longest_stream) where
       let f = behind_forth ns (field_of s r n).next in
       let m = field_moves s r n in
       let w = field_whole s r n (record { short = short; near = omega arith; enough = omega arith }) (omega arith) in
-      let e : (field_of s r n).next.at.0 ≡ r.at.0 + n = ap (λ (z : Field). z.next.at.0) w in
+      let e : (field_of s r n).next.at.0 ≡ r.at.0 + n = ap (λ (z : Taken ℕ). z.next.at.0) w in
       omega (arith, all_there ns (and_right (leb n 16) (every (λ n. leb n 16) ns) t) (field_of s r n).next h)
 
   -- so a header is whole that 16 bits are left behind of
@@ -223,7 +223,7 @@ module _ (s : List ℕ) (r : Reader) (short : length s ≤ longest_stream) (know
   module _ (byte : ℕ) (ones : bits_value s (byte * 8) 11 ≡ 2047) (room : 8 * byte + 32 ≤ 8 * length s) where
     fields_hold : let after = after_sync byte in BitrateGiven s after → ((samplerate s after).value ≡ 3 → ⊥) → HeaderFields s byte
     fields_hold u f =
-        let value : Field → ℕ = λ z. z.value in
+        let value : Taken ℕ → ℕ = λ z. z.value in
         let v = sym (ap value (version_is s byte short room)) ∙ u.ident.version_3 in
         let b = ap value (bitrate_is s byte short room) in
         let l = bits_below s (byte * 8 + 16) 4 in

@@ -2,18 +2,14 @@
 -- Assumes nothing.
 use Rattle.std.specs.Prelude.{ℕ, ◌≤◌, ◌≡◌, refl, cond, List, length, ltb, Result, Ok, Err}
 use Rattle.std.specs.Result.{IsErr, IsErrAnd}
-use Rattle.std.proofs.Common.{sym, subst, ap, ◌∙◌, ltb-false}
+use Rattle.std.proofs.Common.{sym, subst, ◌∙◌, ltb-false}
 use Rattle.ground.specs.Tests.{by_test}
 use Rattle.buffer.specs.Bits.{longest_stream, farthest_bit}
 use Rattle.buffer.specs.Calls.{gate}
 use Rattle.buffer.specs.declared.Reader.{Reader}
+use Rattle.refusal.specs.Handed.{handed_on}
 use Rattle.refusal.specs.declared.Refusal.{Refusal}
 use Rattle.refusal.specs.declared.Refusal.TheVariants.{LongStream, BadState}
-
--- `?` hands on the error that it was given
-passes_up : {A E : Type 0} (y : Result A E) (e : E) → IsErr y × IsErrAnd y (λ f. f ≡ e) → y ≡ Err e
-passes_up (Ok x) e up = absurd up.1
-passes_up (Err f) e up = ap Err up.1
 
 module _ {A : Type 0} (s : List ℕ) (r : Reader) (go : Result A Refusal) where
   -- either the call goes on, or its answer is the refusal
@@ -33,7 +29,7 @@ module _ {A : Type 0} (s : List ℕ) (r : Reader) (go : Result A Refusal) where
   -- what `?` answers then
   pub refuses : {x : Result (Unit {0}) Refusal} {e : Refusal} {y : Result A Refusal} → IsErr y × IsErrAnd y (λ f. f ≡ e)
       → x ≡ gate s r (Ok tt) → x ≡ Err e → y ≡ gate s r go
-  refuses up is e = passes_up _ _ up ∙ subst Goes e (subst Goes (sym is) goes)
+  refuses up is e = handed_on _ _ up ∙ subst Goes e (subst Goes (sym is) goes)
 
 -- behind them the stream is short enough, and the position near enough
 pub admits : (s : List ℕ) (r : Reader) {x : Result (Unit {0}) Refusal} {u : Unit {0}} → x ≡ gate s r (Ok tt) → x ≡ Ok u

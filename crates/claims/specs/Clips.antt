@@ -12,7 +12,7 @@ use Rattle.ground.specs.First.{first_from}
 use Rattle.buffer.specs.Bits.{longest_stream, bit_at, bits_value}
 use Rattle.buffer.specs.Calls.{reader_at, read_of, field_of, has_of, skip_bytes_of, align_of}
 use Rattle.buffer.specs.declared.Reader.{Reader}
-use Rattle.grammar.specs.Reads.{◌>>=◌, Ran, ran, run}
+use Rattle.grammar.specs.Reads.{◌>>=◌, Taken, taken, run}
 use Rattle.tables.specs.Standard.{limit_of, chosen, serves, sblimit, rows_of, levels_of, code_bits_of, grouped_of, quantisation_of, classes}
 use Rattle.tables.specs.Source.{source_row_of, width_of, quantiser_of}
 use Rattle.tables.specs.Differences.{table_of}
@@ -90,7 +90,7 @@ pub record Course (s : List ℕ) (granules : List (List ℤ)) (last end : ℕ) :
   pub ranged : in_range headed ∷ in_range (one end) ∷ in_range two ∷ [] ≡ true ∷ true ∷ true ∷ []
   pub found : attempt_of s (fresh plain) ∷ attempt_of s (one end) ∷ attempt_of s two ∷ [] ≡ headings end
   pub enough : enough_of s 0 headed ∷ enough_of s (104 - end / 8) headed_two ∷ enough_of s 96 headed_three ∷ [] ≡ headings end
-  pub reads : granules_at s (reader_at 32) mono ∷ granules_at s (reader_at 864) mono ∷ [] ≡ ran granules (reader_at last) ∷ ran silence (reader_at 890) ∷ []
+  pub reads : granules_at s (reader_at 32) mono ∷ granules_at s (reader_at 864) mono ∷ [] ≡ taken granules (reader_at last) ∷ taken silence (reader_at 890) ∷ []
   pub aligned : aligned_of s (reader_at last) ∷ aligned_of s (reader_at 890) ∷ [] ≡ reader_at end ∷ reader_at 896 ∷ []
 
 pub courses : Course (behind knocking) knock 126 128 × Course (behind silent) silence 58 64
@@ -151,14 +151,14 @@ module _ {s : List ℕ} {granules : List (List ℤ)} {last end : ℕ} (course : 
     stands big ranged heading enough c is =
         ap (λ (x : Audio). before (on memory x)) is ∙ simp (course.short, le-ltb _ _ big, le-ltb _ _ room, ranged, heading, enough)
 
-    leaves : (xs : List (List ℤ)) (last end : ℕ) → before (on memory a) ≡ asked k Known b → granules_at s b.reader b.format ≡ ran xs (reader_at last)
+    leaves : (xs : List (List ℤ)) (last end : ℕ) → before (on memory a) ≡ asked k Known b → granules_at s b.reader b.format ≡ taken xs (reader_at last)
         → aligned_of s (reader_at last) ≡ reader_at end
         → (outcome (on memory a)).state ≡ framed_to (reader_at end) (cut_format b.format) (position_after b.ring 36) b
     unfolding framed_of after_of
     leaves xs last end is reads aligned =
         ap (λ (x : Decoded). x.state) (known_leaves (on memory a) (ap (λ (x : Asked). x.answer) is)).gives
         ∙ ap (λ (x : Asked). (framed_of s x.skipped x.state).state) is
-        ∙ ap (λ (x : Ran (List (List ℤ))). framed_to (aligned_of s x.next) (cut_format b.format) (position_after b.ring 36) b) reads
+        ∙ ap (λ (x : Taken (List (List ℤ))). framed_to (aligned_of s x.next) (cut_format b.format) (position_after b.ring 36) b) reads
         ∙ ap (λ (r : Reader). framed_to r (cut_format b.format) (position_after b.ring 36) b) aligned
 
   -- entry i of what was computed
@@ -178,7 +178,7 @@ module _ {s : List ℕ} {granules : List (List ℤ)} {last end : ℕ} (course : 
   pub state_one : two_calls.state ≡ one end
   unfolding cut_format position_after fresh limit_of chosen serves sblimit rows_of
   state_one =
-      leaves one_call.memory 0 one_call.state headed granules last end before_first (ap (λ xs. get_or xs 0 (ran [] (reader_at 0))) course.reads)
+      leaves one_call.memory 0 one_call.state headed granules last end before_first (ap (λ xs. get_or xs 0 (taken [] (reader_at 0))) course.reads)
       (ap (λ xs. get_or xs 0 (reader_at 0)) course.aligned)
 
   pub before_second : before two_calls ≡ asked (104 - end / 8) Known headed_two
@@ -190,7 +190,7 @@ module _ {s : List ℕ} {granules : List (List ℤ)} {last end : ℕ} (course : 
   state_two : three_calls.state ≡ two
   unfolding cut_format position_after fresh limit_of chosen serves sblimit rows_of
   state_two =
-      leaves two_calls.memory (104 - end / 8) two_calls.state headed_two silence 890 896 before_second (ap (λ xs. get_or xs 1 (ran [] (reader_at 0))) course.reads)
+      leaves two_calls.memory (104 - end / 8) two_calls.state headed_two silence 890 896 before_second (ap (λ xs. get_or xs 1 (taken [] (reader_at 0))) course.reads)
       (ap (λ xs. get_or xs 1 (reader_at 0)) course.aligned)
 
   pub before_third : before three_calls ≡ asked 96 Known headed_three

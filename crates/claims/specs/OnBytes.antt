@@ -15,7 +15,7 @@ use Rattle.buffer.specs.Calls.{bit_of, reader_at, left, read_of, field_of, has_o
 use Rattle.buffer.specs.Laws.{Enough, field_whole, field_read, field_moves}
 use Rattle.buffer.specs.declared.BytePos.{BytePos}
 use Rattle.buffer.specs.declared.Reader.{Reader}
-use Rattle.grammar.specs.Reads.{Reads, done, ask, ◌>>=◌, Ran, run}
+use Rattle.grammar.specs.Reads.{Reads, done, ask, ◌>>=◌, Taken, run}
 use Rattle.header.specs.Header.{by_search, seek_of, sync_of, start_of, by_start, header_of}
 use Rattle.header.specs.Header.{ident_of, rates_of, mode_of, check_of, bound_of, bound_by, size_of, after_mode_of, rest_of, by_rates, by_ident, fields_of}
 use Rattle.header.specs.Moves.{few_bits_stay}
@@ -62,7 +62,7 @@ module _ (s : List ℕ) (short : length s ≤ longest_stream) where
       let near : r.at.0 ≤ farthest_bit = omega arith in
       simp (le-ltb _ _ short, le-ltb _ _ near, le-ltb _ _ small, lt-ltb (left s r) n (omega arith))
 
-  asks : {A : Type 0} (P : Ran A → Type 0) (n : ℕ) (k : ℕ → Reads A) (r : Reader) → n ≤ 32 → r.at.0 ≤ 8 * length s
+  asks : {A : Type 0} (P : Taken A → Type 0) (n : ℕ) (k : ℕ → Reads A) (r : Reader) → n ≤ 32 → r.at.0 ≤ 8 * length s
       → ((v : ℕ) → r.at.0 + n ≤ 8 * length s → P (run (k v) s (reader_at (r.at.0 + n))))
       → (8 * length s < r.at.0 + n → P (run (k 0) s r)) → P (run (ask n k) s r)
   unfolding run
@@ -79,7 +79,7 @@ module _ (s : List ℕ) (short : length s ≤ longest_stream) where
 
   -- ---- the fields, from three bits into the second byte on
 
-  abbrev Ends : Ran Header → Type 0
+  abbrev Ends : Taken Header → Type 0
   Ends x = OnByte x.value x.next
 
   -- the check word, behind a byte's end: cut off, reading stays there

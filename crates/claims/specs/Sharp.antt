@@ -15,7 +15,7 @@ use Rattle.ground.specs.Table.{table}
 use Rattle.ground.specs.Upto.{below}
 use Rattle.buffer.specs.Bits.{bit_at, bits_value}
 use Rattle.buffer.specs.Calls.{reader_at, read_of, field_of}
-use Rattle.grammar.specs.Reads.{◌>>=◌, Ran, ran, called}
+use Rattle.grammar.specs.Reads.{◌>>=◌, Taken, taken, called}
 use Rattle.grammar.specs.Widths.{Agree}
 use Rattle.tables.specs.Standard.{limit_of, chosen, serves, sblimit, rows_of}
 use Rattle.tables.specs.Source.{source_row_of, width_of, quantiser_of}
@@ -70,7 +70,7 @@ module _ {s : List ℕ} {granules : List (List ℤ)} {last end : ℕ} (course : 
       let at_second = before_second course m o long room in
       let left = accepted_leaves two_calls (known_accepted two_calls headed_two at_second) in
       let own = accepted_leaves one_call (known_accepted one_call headed at_first) in
-      let frame : ℕ → List (Ran (List (List ℤ))) → List (List ℤ) = λ i xs. (get_or xs i (ran [] (reader_at 0))).value in
+      let frame : ℕ → List (Taken (List (List ℤ))) → List (List ℤ) = λ i xs. (get_or xs i (taken [] (reader_at 0))).value in
       let held : granules_in one_call ≡ granules =
       ap (λ (x : Asked). (granules_at s x.state.reader x.state.format).value) at_first ∙ ap (frame 0) course.reads in
       let read : granules_in two_calls ≡ silence =

@@ -9,7 +9,7 @@ use Rattle.buffer.specs.Bits.{longest_stream, farthest_bit}
 use Rattle.buffer.specs.Calls.{reader_at}
 use Rattle.buffer.specs.declared.BytePos.{BytePos}
 use Rattle.buffer.specs.declared.Reader.{Reader}
-use Rattle.grammar.specs.Reads.{Ran, run}
+use Rattle.grammar.specs.Reads.{Taken, run}
 use Rattle.tables.specs.Standard.{steps_of, limit_of, sblimit}
 use Rattle.tables.specs.Differences.{table_of}
 use Rattle.readings.specs.Readings.{strict}
@@ -47,7 +47,7 @@ use Rattle.claims.specs.Numbers.{passed}
 
 -- ---- a frame by its header's mode, mode_extension, bitrate_index and sampling_frequency
 
-abbrev pub reading_over : Steps → List ℕ → Reader → ℕ → ℕ → ℕ → ℕ → Ran AudioFields
+abbrev pub reading_over : Steps → List ℕ → Reader → ℕ → ℕ → ℕ → ℕ → Taken AudioFields
 reading_over steps s r mode extension index frequency = run (audio_data_over steps mode extension index frequency) s r
 
 -- the samples are 01's formulas over the standard's fields, and the reading ends at the standard's bit
@@ -68,7 +68,7 @@ reads_by : (s : List ℕ) (r : Reader) (f : Format) (mode extension index freque
 unfolding granules_at codes_in table_of limit_of
 reads_by s r f mode extension index frequency m b k w =
     let e = frame_by_bounds (allocation_table mode index frequency) w s r in
-    rw (m, b, k) (record { samples = ap (λ (z : Ran (List (List ℤ))). z.value) e; to = ap (λ (z : Ran (List (List ℤ))). z.next) e })
+    rw (m, b, k) (record { samples = ap (λ (z : Taken (List (List ℤ))). z.value) e; to = ap (λ (z : Taken (List (List ℤ))). z.next) e })
 
 reads_by_header : (h : List ℕ) (byte : ℕ) (f : Format) (n : ℕ) → Says h byte f n → (s : List ℕ) (r : Reader)
     → let x = granules_at s r f in
@@ -83,8 +83,8 @@ pub unlisted_reads_the_same : {s : List ℕ} {r : Reader} {mode extension index 
 unlisted_reads_the_same {s} {r} {mode} {extension} {index} {frequency} clean x =
     let e = unlisted_is_the_standards mode extension index frequency s r clean in
     record {
-      samples = x.samples ∙ ap (λ (z : Ran AudioFields). samples_by01 replaced mode extension index frequency z.value) e.0 ∙ e.1;
-      to = x.to ∙ ap (λ (z : Ran AudioFields). z.next) e.0;
+      samples = x.samples ∙ ap (λ (z : Taken AudioFields). samples_by01 replaced mode extension index frequency z.value) e.0 ∙ e.1;
+      to = x.to ∙ ap (λ (z : Taken AudioFields). z.next) e.0;
     }
 
 -- a header of the standard that an attempt reaches, and the audio data behind it

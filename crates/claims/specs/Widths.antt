@@ -9,7 +9,7 @@ use borrow.Author.Tests.{le-ltb}
 use Rattle.buffer.specs.Bits.{farthest_bit}
 use Rattle.buffer.specs.Calls.{align_of}
 use Rattle.buffer.specs.declared.Reader.{Reader}
-use Rattle.grammar.specs.Reads.{Reads, done, Ran, run, called}
+use Rattle.grammar.specs.Reads.{Reads, done, Taken, run, called}
 use Rattle.grammar.specs.Run.{run_bind, run_done, called_bind}
 use Rattle.grammar.specs.Widths.{Narrow, exact, run_moves}
 use Rattle.tables.specs.Differences.{table_of}
@@ -80,19 +80,19 @@ module _ (f : Format) (s : List ℕ) (r : Reader) where
   abbrev allocations : Reads (List ℕ)
   allocations = allocations_of (table_of f.mode f.bitrate f.samplerate) bound limit (replicate 64 0)
 
-  abbrev allocated : Ran (List ℕ)
+  abbrev allocated : Taken (List ℕ)
   allocated = run allocations s r
 
   abbrev selectors : Reads (List ℕ)
   selectors = selectors_of mono allocated.value limit (replicate 64 0)
 
-  abbrev selected : Ran (List ℕ)
+  abbrev selected : Taken (List ℕ)
   selected = run selectors s allocated.next
 
   abbrev scale_factors : Reads (List ℕ)
   scale_factors = scale_factors_of mono allocated.value selected.value limit (replicate 192 0)
 
-  abbrev scaled : Ran (List ℕ)
+  abbrev scaled : Taken (List ℕ)
   scaled = run scale_factors s selected.next
 
   abbrev codes : Reads (List (List ℤ))

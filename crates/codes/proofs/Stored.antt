@@ -6,7 +6,7 @@ use mathlib.Core.List.{List}
 use native.Mathlib.Nat.{le_trans}
 use lib.IntN.{ℤ, nat_abs}
 use Rattle.buffer.specs.declared.Reader.{Reader}
-use Rattle.grammar.specs.Reads.{ran}
+use Rattle.grammar.specs.Reads.{taken}
 use Rattle.tables.specs.Standard.{levels_of}
 use Rattle.samples.specs.Sample.{scale_of, adj_of, centred_by, scaled_by, sample_of}
 use Rattle.samples.specs.Bounds.{most_of, Range, centred_small}
@@ -27,6 +27,6 @@ module _ (q factor place : ℕ) (xs : List ℤ) (r : Reader) (k : Three) where
       y ≡ scaled_by (centred_by a s k.second) (factor / 4096) (factor % 4096) →
       z ≡ scaled_by (centred_by a s k.third) (factor / 4096) (factor % 4096) →
       ys ≡ three place x y z xs →
-      ran ys r ≡ ran (three place (sample k.first) (sample k.second) (sample k.third) xs) r
+      taken ys r ≡ taken (three place (sample k.first) (sample k.second) (sample k.third) xs) r
   unfolding sample_of
   stored e1 e2 e3 e4 e5 e6 = cc

@@ -8,9 +8,9 @@ use Rattle.buffer.specs.Bits.{bits_value, longest_stream, farthest_bit}
 use Rattle.buffer.specs.Calls.{or_zero, read_of, field_of, reader_at, left}
 use Rattle.buffer.specs.Laws.{split, bits_below, Enough, field_whole}
 use Rattle.buffer.specs.declared.Reader.{Reader}
-use Rattle.buffer.specs.declared.Field.{Field}
+use Rattle.buffer.specs.declared.Taken.{Taken}
 use Rattle.buffer.specs.declared.Read.{Read}
-use Rattle.grammar.specs.Reads.{run, ran}
+use Rattle.grammar.specs.Reads.{run, taken}
 use Rattle.samples.specs.declared.Three.{Three}
 use Rattle.codes.specs.Frame.{singles_of}
 
@@ -43,8 +43,8 @@ pieces x y z b h g = rw (high (x * 2 ^ b + y) b g, low (x * 2 ^ b + y) b g, high
 part : {s : List ℕ} {r : Reader} {n : ℕ} (d b : ℕ) → Enough s r n → d + b ≤ n → Enough s (reader_at (r.at.0 + d)) b
 part d b h l = record { short = h.short; near = omega arith; enough = omega arith }
 
-pub at_once : (s : List ℕ) (r : Reader) (b : ℕ) (f : Field) → f ≡ field_of s r (3 * b) → b ≤ 10 → (f.next.at.0 ≡ r.at.0 → ⊥) →
-    ran (cut_in_three f.value b) f.next ≡ run (singles_of b) s r
+pub at_once : (s : List ℕ) (r : Reader) (b : ℕ) (f : Taken ℕ) → f ≡ field_of s r (3 * b) → b ≤ 10 → (f.next.at.0 ≡ r.at.0 → ⊥) →
+    taken (cut_in_three f.value b) f.next ≡ run (singles_of b) s r
 unfolding singles_of run
 at_once s r b f e l m =
     let at = r.at.0 in
@@ -55,4 +55,4 @@ at_once s r b f e l m =
     let three = field_whole s (reader_at (at + b + b)) b (rw (← add_assoc at b b) at (part (b + b) b all (omega arith))) (omega arith) in
     let values = rw (← three_values s at b) at (pieces (bits_value s at b) _ _ b (bits_below s (at + b) b) (bits_below s (at + b + b) b)) in
     let place : at + 3 * b ≡ at + b + b + b = omega arith in
-    rw (e, field_whole s r (3 * b) all (omega arith), one, two, three, place) (ap (λ k. ran k (reader_at (at + b + b + b))) values)
+    rw (e, field_whole s r (3 * b) all (omega arith), one, two, three, place) (ap (λ k. taken k (reader_at (at + b + b + b))) values)

@@ -2,7 +2,7 @@
 #![tactic(auto)]
 
 ghost use Rattle.std.specs.Prelude.{◌≡◌, ◌≤◌, ◌<◌};
-ghost use Rattle.grammar.specs.Reads.{run, ran};
+ghost use Rattle.grammar.specs.Reads.{run, taken};
 ghost use Rattle.ground.specs.Stores.{three};
 ghost use Rattle.side.specs.Below.{Below, side_with};
 ghost use Rattle.codes.specs.Three.{cut_in_three};
@@ -19,7 +19,7 @@ struct Codes {
 }
 
 fn read_singles(reader: Reader, s: &[u8], bits: usize) -> Codes
-    ensures { ran result.codes result.reader ≡ run (singles_of bits) s.now reader }
+    ensures { taken result.codes result.reader ≡ run (singles_of bits) s.now reader }
 {
     let a = reader.field(s, bits);
     let next = a.next;
@@ -53,7 +53,7 @@ fn cut_in_three(value: u32, bits: usize) -> Three
 
 // Where the codes are narrow and all there, one read takes the three of them.
 fn read_three(reader: Reader, s: &[u8], bits: usize) -> Codes
-    ensures { ran result.codes result.reader ≡ run (singles_of bits) s.now reader }
+    ensures { taken result.codes result.reader ≡ run (singles_of bits) s.now reader }
 {
     if bits <= 10 {
         let f = reader.field(s, 3 * bits);
@@ -71,7 +71,7 @@ fn read_three(reader: Reader, s: &[u8], bits: usize) -> Codes
 
 fn read_codes(reader: Reader, s: &[u8], q: usize) -> Codes
     requires { q < 18 }
-    ensures { ran result.codes result.reader ≡ run (codes_of q) s.now reader }
+    ensures { taken result.codes result.reader ≡ run (codes_of q) s.now reader }
 {
     let bits = tables::code_bits(q);
     if tables::grouped(q) {
@@ -104,7 +104,7 @@ fn read_samples(
     sample: &mut [i32; 192],
 ) -> Reader
     requires { (0 < q) × (q < 18) × (factor ≤ 33554432) × (place < 64) }
-    ensures { ran sample.new result ≡ run (three_samples_of q factor place sample.old) s.now reader }
+    ensures { taken sample.new result ≡ run (three_samples_of q factor place sample.old) s.now reader }
 {
     let c = read_codes(reader, s, q);
     let codes = c.codes;
@@ -128,7 +128,7 @@ fn read_place(
     sample: &mut [i32; 192],
 ) -> Reader
     requires { (part < 3) × (place < 64) × Below 18 quant.now × Below 33554433 factor.now }
-    ensures { ran sample.new result
+    ensures { taken sample.new result
         ≡ run (place_of (side_with quant.now factor.now) part place sample.old) s.now reader }
 {
     let q = quant[place] as usize;
@@ -161,7 +161,7 @@ fn sample_band(
     sample: &mut [i32; 192],
 ) -> Reader
     requires { (part < 3) × (sb < 32) × Below 18 quant.now × Below 33554433 factor.now }
-    ensures { ran sample.new result
+    ensures { taken sample.new result
         ≡ run (sample_band_of (side_with quant.now factor.now) part bound sb sample.old) s.now reader }
 {
     let left = read_place(reader, s, quant, factor, part, sb, sample);
@@ -184,7 +184,7 @@ pub fn read_granule(
     sample: &mut [i32; 192],
 ) -> Reader
     requires { (part < 3) × (limit ≤ 32) × Below 18 quant.now × Below 33554433 factor.now }
-    ensures { ran sample.new result
+    ensures { taken sample.new result
         ≡ run (samples_from (side_with quant.now factor.now) part bound limit sample.old) s.now reader }
 {
     let mut next = reader;

@@ -12,7 +12,7 @@ use lib.Ieee.{Float}
 use lib.ListN.{length, get_or, get_or-append}
 use lib.Seq.{get_or-append-add}
 use Rattle.buffer.specs.declared.Reader.{Reader}
-use Rattle.grammar.specs.Reads.{Ran, ran, run}
+use Rattle.grammar.specs.Reads.{Taken, taken, run}
 use Rattle.grammar.specs.Run.{run_bind, run_done}
 use Rattle.grammar.specs.Values.{always_run}
 use Rattle.side.specs.Side.{Side}
@@ -69,7 +69,7 @@ module _ (gs : List (List ℤ)) (g : ℕ) (many : length gs ≡ g) (x : List ℤ
 -- ---- the loop's state after g granules, from reader r and ring position p
 
 module _ (side : Side) (bound limit : ℕ) (s : List ℕ) (r : Reader) (p : ℕ) (memory output : List Float) where
-  abbrev gone : ℕ → Ran (List (List ℤ))
+  abbrev gone : ℕ → Taken (List (List ℤ))
   gone g = run (granules_of side bound limit g) s r
 
   pub record After (g : ℕ) (end : Reader) (ring : ℕ) (m o : List Float) : Type 0 where
@@ -84,10 +84,10 @@ module _ (side : Side) (bound limit : ℕ) (s : List ℕ) (r : Reader) (p : ℕ)
 
   -- one granule more
   module _ (h : Place p) (big : memory_length ≤ length memory) (g : ℕ) (end : Reader) (ring : ℕ) (m o : List Float) (before : After g end ring m o) where
-    abbrev one : Ran (List ℤ)
+    abbrev one : Taken (List ℤ)
     one = run (granule_of side (g / 4) bound limit) s end
 
-    more : gone (suc g) ≡ ran ((gone g).value ++ (one.value ∷ [])) one.next
+    more : gone (suc g) ≡ taken ((gone g).value ++ (one.value ∷ [])) one.next
     unfolding granules_of
     more =
         run_bind (granules_of side bound limit g) _ s r

@@ -5,7 +5,7 @@ use mathlib.Core.List.{List}
 use native.Mathlib.Omega.{arith}
 use lib.Dec.{eqb}
 use Rattle.buffer.specs.declared.Reader.{Reader}
-use Rattle.grammar.specs.Reads.{ran, run}
+use Rattle.grammar.specs.Reads.{taken, run}
 use Rattle.grammar.specs.Run.{and_then}
 use Rattle.tables.specs.Standard.{Table, B2a, B2b, B2c, B2d, chosen}
 use Rattle.tables.specs.Differences.{number_of, table_of}
@@ -26,6 +26,6 @@ table<2 mode bitrate samplerate = number<2 (chosen (eqb mode 3) bitrate samplera
 
 pub whole : (s : List ℕ) (r next : Reader) (f : Format) (side : Side) (limit table bound : ℕ) → limit ≡ limit_in f
     → table ≡ table_of f.mode f.bitrate f.samplerate → bound ≡ min f.bound limit
-    → ran side next ≡ run (side_of (eqb f.mode 3) table bound limit) s r → run (granules_of side bound limit 12) s next ≡ granules_at s r f
+    → taken side next ≡ run (side_of (eqb f.mode 3) table bound limit) s r → run (granules_of side bound limit 12) s next ≡ granules_at s r f
 unfolding granules_at codes_in frame_of
 whole s r next f side limit table bound l t b e = rw (← l, ← b, ← t) (and_then _ _ s r e refl)

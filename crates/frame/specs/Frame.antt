@@ -2,7 +2,7 @@
 -- bound) and "From samples to sound" (36 slots, three to a granule).
 use Rattle.std.specs.Prelude.{ℕ, ◌/◌, ◌%◌, ◌≤◌, ◌<◌, List, [], eqb, ℤ, Float, get_or}
 use Rattle.buffer.specs.declared.Reader.{Reader}
-use Rattle.grammar.specs.Reads.{Reads, Ran, run}
+use Rattle.grammar.specs.Reads.{Reads, Taken, run}
 use Rattle.tables.specs.Standard.{limit_of}
 use Rattle.tables.specs.Differences.{table_of}
 use Rattle.header.specs.declared.Format.{Format}
@@ -29,7 +29,7 @@ unfoldable pub codes_in : Format → Reads (List (List ℤ))
 codes_in f = frame_of (eqb f.mode 3) (table_of f.mode f.bitrate f.samplerate) (cut_of f.bound (limit_in f)) (limit_in f)
 
 -- the granules of the frame at a reader, and the reader after its last code
-unfoldable pub granules_at : List ℕ → Reader → Format → Ran (List (List ℤ))
+unfoldable pub granules_at : List ℕ → Reader → Format → Taken (List (List ℤ))
 granules_at s r f = run (codes_in f) s r
 
 -- the samples of channel ch in slot n

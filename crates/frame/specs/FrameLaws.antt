@@ -10,7 +10,7 @@ use Rattle.std.proofs.Math.ListN.{length}
 use Rattle.ground.specs.Upto.{upto, below}
 use Rattle.buffer.specs.Laws.{Enough, field_whole}
 use Rattle.buffer.specs.declared.Reader.{Reader}
-use Rattle.grammar.specs.Reads.{Reads, ◌>>=◌, Ran, run}
+use Rattle.grammar.specs.Reads.{Reads, ◌>>=◌, Taken, run}
 use Rattle.grammar.specs.Run.{run_bind}
 use Rattle.grammar.specs.Widths.{run_moves}
 use Rattle.grammar.specs.Values.{Always, always_bind, always_run, anything, always_anything}
@@ -92,7 +92,7 @@ module _ (s : List ℕ) (table bound sb : ℕ) (quant : List ℕ) (r : Reader) (
 
 -- those of n subbands, where 19 bits are left: 2 bits each, or else 16 already
 module _ (s : List ℕ) (table bound limit : ℕ) (quant : List ℕ) (r : Reader) (wide : (sb : ℕ) → sb < limit → 2 ≤ width_of table sb) (h : Enough s r 19) where
-  abbrev after : ℕ → Ran (List ℕ)
+  abbrev after : ℕ → Taken (List ℕ)
   after n = run (allocations_of table bound n quant) s r
 
   bands_more : (n : ℕ) → n < limit → r.at.0 + min (2 * n) 16 ≤ (after n).next.at.0

@@ -2,7 +2,7 @@
 -- the output. From 01, "From samples to sound". Assumes nothing.
 use Rattle.std.specs.Prelude.{ℕ, ◌*◌, ◌/◌, ◌≤◌, ◌≡◌, List, ℤ, Float, length}
 use Rattle.buffer.specs.declared.Reader.{Reader}
-use Rattle.grammar.specs.Reads.{Ran, run}
+use Rattle.grammar.specs.Reads.{Taken, run}
 use Rattle.side.specs.Below.{Below, side_with}
 use Rattle.codes.specs.Frame.{granule_of, granules_of}
 use Rattle.window.specs.Window.{window_list}
@@ -23,21 +23,21 @@ pub record GranulesLent (quant factor : List ℕ) (limit ring : ℕ) (window mem
 
 -- the codes of granule g, "four to each scale-factor part", and of all twelve
 module _ (s : List ℕ) (r : Reader) (quant factor : List ℕ) (bound limit : ℕ) where
-  abbrev pub one_granule : ℕ → Ran (List ℤ)
+  abbrev pub one_granule : ℕ → Taken (List ℤ)
   one_granule g = run (granule_of (side_with quant factor) (g / 4) bound limit) s r
 
-  abbrev pub twelve_granules : Ran (List (List ℤ))
+  abbrev pub twelve_granules : Taken (List (List ℤ))
   twelve_granules = run (granules_of (side_with quant factor) bound limit 12) s r
 
 -- the three slots of granule g, from ring position p
-pub record GranuleSounds (x : Ran (List ℤ)) (g p : ℕ) (memory output : List Float) (r : Sounded) (memory' output' : List Float) : Type 0 where
+pub record GranuleSounds (x : Taken (List ℤ)) (g p : ℕ) (memory output : List Float) (r : Sounded) (memory' output' : List Float) : Type 0 where
   pub end_is : r.end ≡ x.next
   pub ring_is : r.ring ≡ position_after p 3
   pub memory_is : memory' ≡ memory_after (slot_samples x.value) p memory 3
   pub output_is : output' ≡ output_after (slot_samples x.value) p memory output (192 * g) 3
 
 -- and the 36 slots of a frame
-pub record FrameSounds (x : Ran (List (List ℤ))) (p : ℕ) (memory output : List Float) (r : Sounded) (memory' output' : List Float) : Type 0 where
+pub record FrameSounds (x : Taken (List (List ℤ))) (p : ℕ) (memory output : List Float) (r : Sounded) (memory' output' : List Float) : Type 0 where
   pub end_is : r.end ≡ x.next
   pub ring_is : r.ring ≡ position_after p 36
   pub memory_is : memory' ≡ frame_memory x.value p memory

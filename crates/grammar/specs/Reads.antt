@@ -2,7 +2,9 @@
 -- The syntax tables of ISO/IEC 11172-3, 2.4.1, are written in this form, field after field.
 use Rattle.std.specs.Prelude.{ℕ, ◌+◌, List}
 use Rattle.buffer.specs.Calls.{field_of}
+pub use Rattle.buffer.specs.Calls.{taken}
 use Rattle.buffer.specs.declared.Reader.{Reader}
+pub use Rattle.buffer.specs.declared.Taken.{Taken}
 
 pub data Reads (A : Type 0) : Type 0 where
   done : A → Reads A
@@ -14,17 +16,9 @@ unfoldable pub ◌>>=◌ : {A B : Type 0} → Reads A → (A → Reads B) → Re
 ◌>>=◌ (ask n k) f = ask n (λ v. k v >>= f)
 
 infixl 10 ◌>>=◌
--- what was read, and the reader after it
-pub record Ran (A : Type 0) : Type 0 where
-  pub value : A
-  pub next : Reader
-
-abbrev pub ran : {A : Type 0} → A → Reader → Ran A
-ran a r = record { value = a; next = r }
-
 -- the reading of a stream from a place; 01: a field cut off reads as 0 and stays, "a narrower one after it may succeed"
-unfoldable pub run : {A : Type 0} → Reads A → List ℕ → Reader → Ran A
-run (done a) s r = ran a r
+unfoldable pub run : {A : Type 0} → Reads A → List ℕ → Reader → Taken A
+run (done a) s r = taken a r
 run (ask n k) s r = run (k (field_of s r n).value) s (field_of s r n).next
 
 -- how many bits it calls for: the sum of the widths it asks for on its way

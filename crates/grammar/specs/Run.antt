@@ -4,10 +4,9 @@ use Rattle.std.specs.Prelude.{ℕ, ◌+◌, ◌≡◌, refl, List}
 use Rattle.std.proofs.Common.{sym, ◌∙◌, subst, arith}
 use Rattle.buffer.specs.Calls.{field_of}
 use Rattle.buffer.specs.declared.Reader.{Reader}
-use Rattle.buffer.specs.declared.Field.{Field}
-use Rattle.grammar.specs.Reads.{Reads, done, ask, ◌>>=◌, Ran, ran, run, called}
+use Rattle.grammar.specs.Reads.{Reads, done, ask, ◌>>=◌, Taken, taken, run, called}
 
-pub run_done : {A : Type 0} (a : A) (s : List ℕ) (r : Reader) → run (done a) s r ≡ ran a r
+pub run_done : {A : Type 0} (a : A) (s : List ℕ) (r : Reader) → run (done a) s r ≡ taken a r
 unfolding run
 run_done a s r = refl
 
@@ -29,11 +28,11 @@ called_bind (done a) f s r = omega arith
 called_bind (ask n k) f s r = omega (arith, called_bind (k (field_of s r n).value) f s (field_of s r n).next)
 
 -- a field that was read, and what comes after it
-pub field_then : {A : Type 0} (n : ℕ) (k : ℕ → Reads A) (s : List ℕ) (r : Reader) {f : Field} {x : Ran A} →
+pub field_then : {A : Type 0} (n : ℕ) (k : ℕ → Reads A) (s : List ℕ) (r : Reader) {f : Taken ℕ} {x : Taken A} →
     f ≡ field_of s r n → x ≡ run (k f.value) s f.next → x ≡ run (ask n k) s r
 field_then n k s r {x = x} e g = subst (λ y. x ≡ run (k y.value) s y.next) e g ∙ sym (run_ask n k s r)
 
 -- a program that was run, and what comes after it
-pub and_then : {A B : Type 0} (m : Reads A) (f : A → Reads B) (s : List ℕ) (r : Reader) {r' : Reader} {a : A} {x : Ran B} →
-    ran a r' ≡ run m s r → x ≡ run (f a) s r' → x ≡ run (m >>= f) s r
+pub and_then : {A B : Type 0} (m : Reads A) (f : A → Reads B) (s : List ℕ) (r : Reader) {r' : Reader} {a : A} {x : Taken B} →
+    taken a r' ≡ run m s r → x ≡ run (f a) s r' → x ≡ run (m >>= f) s r
 and_then m f s r {x = x} e g = subst (λ y. x ≡ run (f y.value) s y.next) e g ∙ sym (run_bind m f s r)

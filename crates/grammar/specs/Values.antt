@@ -5,7 +5,7 @@ use Rattle.std.proofs.Common.{sym, subst}
 use Rattle.buffer.specs.Laws.{field_small}
 use Rattle.buffer.specs.Calls.{field_of}
 use Rattle.buffer.specs.declared.Reader.{Reader}
-use Rattle.grammar.specs.Reads.{Reads, done, ask, ◌>>=◌, ran, run}
+use Rattle.grammar.specs.Reads.{Reads, done, ask, ◌>>=◌, taken, run}
 
 -- whatever the fields hold, the value that is read has the property P
 unfoldable pub Always : {A : Type 0} → (A → Type 0) → Reads A → Type 0
@@ -26,7 +26,7 @@ always_run P (ask n k) s r h =
 
 -- what a caller learns of a value from the program that read it
 pub learnt : {A : Type 0} (P : A → Type 0) (m : Reads A) (s : List ℕ) (r : Reader) {r' : Reader} {a : A} →
-    ran a r' ≡ run m s r → Always P m → P a
+    taken a r' ≡ run m s r → Always P m → P a
 learnt P m s r e h = subst (λ y. P y.value) (sym e) (always_run P m s r h)
 
 -- nothing is asked of a value

@@ -1,6 +1,6 @@
 -- What an accepted header holds, whatever the stream: ranges of its format, and a data size of 90 to 1,725 (01's state in range).
 -- Assumes nothing.
-use Rattle.std.specs.Prelude.{ℕ, ◌+◌, ◌-◌, ◌*◌, ◌/◌, ◌≤◌, ◌<◌, ◌^◌, ◌≡◌, refl, Bool, true, false, cond, not, ◌&&◌, ◌||◌, List, eqb, leb}
+use Rattle.std.specs.Prelude.{ℕ, ◌+◌, ◌-◌, ◌*◌, ◌/◌, ◌≤◌, ◌<◌, ◌^◌, ◌≡◌, refl, Bool, true, false, cond, not, ◌&&◌, ◌||◌, List, eqb, leb, Option, Some, None, Result, Ok, Err}
 use Rattle.std.proofs.Common.{sym, arith, leb→le, eqb-true, ne_eqb}
 use Rattle.std.proofs.lemmas.Bool.{eqb-false, not-false}
 use Rattle.ground.specs.Rows.{never}
@@ -10,16 +10,15 @@ use Rattle.buffer.specs.declared.Reader.{Reader}
 use Rattle.grammar.specs.Values.{Always, always_bind, always_run}
 use Rattle.tables.specs.Standard.{kbps_of, rate_of}
 use Rattle.readings.specs.Pairs.{barred}
-use Rattle.header.specs.declared.Ident.{Ident}
-use Rattle.header.specs.declared.Ident.TheVariants.{LayerII, Refused as IdentRefused}
+use Rattle.buffer.specs.declared.BytePos.{BytePos}
+use Rattle.grammar.specs.Reads.{Reads, Taken}
+use Rattle.refusal.specs.declared.Refusal.{Refusal}
+use Rattle.refusal.specs.declared.Refusal.TheVariants.{BarredRate, OtherFormat}
 use Rattle.header.specs.declared.Rates.{Rates}
-use Rattle.header.specs.declared.Rates.TheVariants.{Known, Refused as RatesRefused}
 use Rattle.header.specs.declared.Format.{Format}
-use Rattle.header.specs.declared.Header.{Header}
-use Rattle.header.specs.declared.Header.TheVariants.{Accepted, Refused}
-use Rattle.header.specs.declared.Start.{Start}
-use Rattle.header.specs.declared.Start.TheVariants.{At, Refused as StartRefused}
-use Rattle.header.specs.Header.{ident_of, rates_of, mode_of, bound_of, check_of, bound_by, size_of, least_data, most_data, rest_of, by_rates, by_ident, fields_of, differs, after_mode_of, header_of, start_of, by_start}
+use Rattle.header.specs.declared.Accepted.{Accepted}
+use Rattle.header.specs.declared.Unsynced.{Unsynced}
+use Rattle.header.specs.Header.{ident_of, rates_of, mode_of, bound_of, check_of, bound_by, size_of, least_data, most_data, rest_of, by_rates, by_ident, fields_of, differs, after_mode_of, unless_refused, header_of, start_of, by_start}
 
 -- the frame size of each bit rate and sample rate, by one computed test
 sizes_at : ℕ → ℕ → Bool
@@ -51,9 +50,9 @@ size_fits b f p true l m n = let z = frame_sizes b f l m in (omega arith, omega 
 size_fits b f p false l m n = let z = frame_sizes b f l m in (omega arith, omega arith)
 
 -- the rates, where they are known
-abbrev pub KnownRates : Rates → Type 0
-KnownRates (Known b f p) = (b < 14) × (f < 3) × (p < 2)
-KnownRates (RatesRefused n) = Unit
+abbrev pub KnownRates : Result Rates Refusal → Type 0
+KnownRates (Ok x) = (x.bitrate < 14) × (x.samplerate < 3) × (x.padding < 2)
+KnownRates (Err e) = Unit
 
 pub rates_known : Always KnownRates rates_of
 unfolding rates_of Always
@@ -114,14 +113,8 @@ same_format known f d n =
     is m n e = sym (eqb-true m n (not-false _ e))
 
 -- an accepted header: neither 13 nor 6 fell after its mode
-pub after_mode : (known : Format) (b f mode : ℕ) → eqb (after_mode_of known b f mode) 0 ≡ true
-    → (barred known.reading b mode ≡ false) × (differs known b f mode ≡ false)
-after_mode known b f mode = go (barred known.reading b mode) (differs known b f mode)
-  where
-    go : (x y : Bool) → eqb (cond x 13 (cond y 6 0)) 0 ≡ true → (x ≡ false) × (y ≡ false)
-    go false false e = (refl, refl)
-    go false true e = (refl, sym e)
-    go true y e = (sym e, absurd (never e refl))
+abbrev pub NeitherFell : Format → ℕ → ℕ → ℕ → Type 0
+NeitherFell known b f mode = (barred known.reading b mode ≡ false) × (differs known b f mode ≡ false)
 
 -- 01's ranges of a format and a data size, and 02's pairs (E3)
 pub record Good (known f : Format) (size : ℕ) : Type 0 where
@@ -137,18 +130,29 @@ pub record Good (known f : Format) (size : ℕ) : Type 0 where
   pub least : least_data ≤ size
   pub most : size ≤ most_data
 
-abbrev pub GoodHeader : Format → Header → Type 0
-GoodHeader known (Accepted f size) = Good known f size
-GoodHeader known (Refused n) = Unit
+abbrev pub GoodHeader : Format → Result Accepted Refusal → Type 0
+GoodHeader known (Ok x) = Good known x.format x.size
+GoodHeader known (Err e) = Unit
+
+-- 13, then 6: either ends the reading, and without them it goes on
+in_turn : (known : Format) (b f mode : ℕ) (more : Reads (Result Accepted Refusal)) → (NeitherFell known b f mode → Always (GoodHeader known) more)
+    → Always (GoodHeader known) (unless_refused (after_mode_of known b f mode) more)
+unfolding Always
+in_turn known b f mode more good = go (barred known.reading b mode) (differs known b f mode) refl refl
+  where
+    go : (x y : Bool) → barred known.reading b mode ≡ x → differs known b f mode ≡ y
+        → Always (GoodHeader known) (unless_refused (cond x (Some BarredRate) (cond y (Some OtherFormat) None)) more)
+    go true y d e = tt
+    go false true d e = tt
+    go false false d e = good (d, e)
 
 rest_good : (known : Format) (check : Bool) (b f p : ℕ) → b < 14 → f < 3 → p < 2 → Always (GoodHeader known) (rest_of known check b f p)
 unfolding rest_of Always
 rest_good known check b f p l m n =
     always_bind (λ mode. mode < 4) (GoodHeader known) mode_of _ mode_small
-    (λ mode k. by_test (Always (GoodHeader known)) (eqb (after_mode_of known b f mode) 0) _ _
-    (λ e. always_bind (Extended mode) (GoodHeader known) (bound_of mode check) _ (bound_extended mode check)
+    (λ mode k. in_turn known b f mode _
+    (λ d. always_bind (Extended mode) (GoodHeader known) (bound_of mode check) _ (bound_extended mode check)
     (λ bound h.
-    let d = after_mode known b f mode e in
     let z = size_fits b f p check l m n in
     let y = bound_small mode h.0 h.1 in
     record {
@@ -163,18 +167,17 @@ rest_good known check b f p l m n =
       same = same_format known _ d.1;
       least = z.0;
       most = z.1;
-    }))
-    (λ _. tt))
+    })))
 
-rates_good : (known : Format) (check : Bool) (r : Rates) → KnownRates r → Always (GoodHeader known) (by_rates known check r)
+rates_good : (known : Format) (check : Bool) (r : Result Rates Refusal) → KnownRates r → Always (GoodHeader known) (by_rates known check r)
 unfolding Always
-rates_good known check (Known b f p) h = rest_good known check b f p h.0 h.1 h.2
-rates_good known check (RatesRefused n) h = tt
+rates_good known check (Ok x) h = rest_good known check x.bitrate x.samplerate x.padding h.0 h.1 h.2
+rates_good known check (Err e) h = tt
 
-ident_good : (known : Format) (i : Ident) → Always (GoodHeader known) (by_ident known i)
+ident_good : (known : Format) (i : Result Bool Refusal) → Always (GoodHeader known) (by_ident known i)
 unfolding Always
-ident_good known (LayerII check) = always_bind KnownRates (GoodHeader known) rates_of _ rates_known (rates_good known check)
-ident_good known (IdentRefused n) = tt
+ident_good known (Ok check) = always_bind KnownRates (GoodHeader known) rates_of _ rates_known (rates_good known check)
+ident_good known (Err e) = tt
 
 any_ident : Always (λ _. Unit) ident_of
 unfolding ident_of Always
@@ -184,9 +187,9 @@ fields_good : (known : Format) → Always (GoodHeader known) (fields_of known)
 unfolding fields_of
 fields_good known = always_bind (λ _. Unit) (GoodHeader known) ident_of _ any_ident (λ i _. ident_good known i)
 
-start_good : (s : List ℕ) (known : Format) (x : Start) → GoodHeader known (by_start s known x).header
-start_good s known (At sync r) = always_run (GoodHeader known) (fields_of known) s r (fields_good known)
-start_good s known (StartRefused n sync r) = tt
+start_good : (s : List ℕ) (known : Format) (x : Result (Taken BytePos) Unsynced) → GoodHeader known (by_start s known x).header
+start_good s known (Ok x) = always_run (GoodHeader known) (fields_of known) s x.next (fields_good known)
+start_good s known (Err e) = tt
 
 pub header_good : (s : List ℕ) (r : Reader) (known : Format) → GoodHeader known (header_of s r known).header
 unfolding header_of

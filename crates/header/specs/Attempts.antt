@@ -1,7 +1,7 @@
 -- One header attempt by 01's table: the numbers 1 to 6, 13 (02, E3) and 0, each given exactly when, in the order in which the header is read,
 -- the place where reading goes on, and the byte of the sync's FF (02, E2). From 01, "Numbers a call can give" and "From the bytes to a header". Assumes nothing.
 use Prim.Native.Nat.{ℕ, ◌+◌, ◌-◌, ◌*◌, ◌/◌, ◌≤◌, ◌<◌}
-use Rattle.std.specs.Prelude.{◌≡◌, Bool, ◌&&◌, ◌||◌, List, ◌⊎◌, T, eqb, leb, ltb, length}
+use Rattle.std.specs.Prelude.{◌≡◌, Bool, ◌&&◌, ◌||◌, List, ◌⊎◌, T, eqb, leb, ltb, length, Option, Some, None, Result, Ok, Err}
 use Rattle.std.proofs.Math.Path.{refl, ap}
 use Rattle.std.proofs.Common.{sym, subst, ◌∙◌, inl, inr}
 use Rattle.std.proofs.Math.Bool.{true, false, cond}
@@ -15,20 +15,18 @@ use Rattle.buffer.specs.Laws.{field_moves}
 use Rattle.buffer.specs.PairLaws.{no_pair_found}
 use Rattle.buffer.specs.declared.BytePos.{BytePos}
 use Rattle.buffer.specs.declared.Reader.{Reader}
-use Rattle.buffer.specs.declared.Field.{Field}
-use Rattle.grammar.specs.Reads.{Reads, done, ◌>>=◌, Ran, ran, run}
-use Rattle.header.specs.Header.{bound_by, size_of, differs, by_search, seek_of, sync_of, start_of, ident_of, by_ident, rates_of, by_rates, mode_of, check_of, bound_of, rest_of, fields_of, attempt, refusal, by_start, header_of, header_number}
+use Rattle.grammar.specs.Reads.{Reads, done, ◌>>=◌, Taken, taken, run}
+use Rattle.header.specs.Header.{bound_by, size_of, differs, by_search, seek_of, sync_of, start_of, ident_of, by_ident, rates_of, by_rates, mode_of, check_of, bound_of, unless_refused, accepted, rest_of, fields_of, unsynced, attempt, refusal, by_start, header_of, header_number}
 use Rattle.header.specs.Accepted.{SameFormat, same_format}
 use Rattle.readings.specs.Pairs.{barred}
-use Rattle.header.specs.declared.Ident.{Ident}
+use Rattle.refusal.specs.declared.Refusal.{Refusal}
+use Rattle.refusal.specs.declared.Refusal.TheVariants.{NoHeader, NoSync, OtherLayer, NoBitRate, NoSampleRate, OtherFormat, BarredRate}
 use Rattle.header.specs.declared.Rates.{Rates}
 use Rattle.header.specs.declared.Format.{Format}
 use Rattle.readings.specs.declared.Reading.{Reading}
-use Rattle.header.specs.declared.Header.{Header}
-use Rattle.header.specs.declared.Header.TheVariants.{Accepted, Refused}
+use Rattle.header.specs.declared.Accepted.{Accepted}
 use Rattle.header.specs.declared.Attempt.{Attempt}
-use Rattle.header.specs.declared.Start.{Start}
-use Rattle.header.specs.declared.Start.TheVariants.{At, Refused as StartRefused}
+use Rattle.header.specs.declared.Unsynced.{Unsynced}
 use Rattle.ground.specs.Rows.{TableOf, never, is_true, is_false, push}
 use Rattle.header.specs.Moves.{few_bits_stay}
 
@@ -39,7 +37,7 @@ module _ (s : List ℕ) (r : Reader) where
   abbrev pub past : ℕ
   past = past_of s 0 ((r.at.0 + 7) / 8)
 
-  abbrev pub eleven_bits : Field
+  abbrev pub eleven_bits : Taken ℕ
   eleven_bits = field_of s (reader_at (past * 8)) 11
 
   -- "if they are not all ones, the search starts at the byte holding the reading position"
@@ -62,31 +60,31 @@ pub data Synced (s : List ℕ) (r : Reader) : BytePos → Reader → Type 0 wher
 -- ---- the fields after it, from place q on, each where the one before it ends
 
 module _ (s : List ℕ) (q : Reader) where
-  abbrev pub version : Field
+  abbrev pub version : Taken ℕ
   version = field_of s q 2
 
-  abbrev pub layer : Field
+  abbrev pub layer : Taken ℕ
   layer = field_of s version.next 2
 
-  abbrev pub protection : Field
+  abbrev pub protection : Taken ℕ
   protection = field_of s layer.next 1
 
-  abbrev pub bitrate : Field
+  abbrev pub bitrate : Taken ℕ
   bitrate = field_of s protection.next 4
 
-  abbrev pub samplerate : Field
+  abbrev pub samplerate : Taken ℕ
   samplerate = field_of s bitrate.next 2
 
-  abbrev pub padding : Field
+  abbrev pub padding : Taken ℕ
   padding = field_of s samplerate.next 1
 
-  abbrev pub mode : Field
+  abbrev pub mode : Taken ℕ
   mode = field_of s (field_of s padding.next 1).next 2
 
-  abbrev pub extension : Field
+  abbrev pub extension : Taken ℕ
   extension = field_of s mode.next 2
 
-  abbrev pub flags : Field
+  abbrev pub flags : Taken ℕ
   flags = field_of s extension.next 4
 
   -- "protection 1 (0 means a check word)"
@@ -128,33 +126,33 @@ module _ (s : List ℕ) (q : Reader) where
 
 pub data Attempts (s : List ℕ) (r : Reader) (known : Format) : ℕ → Attempt → Type 0 where
   -- "fewer than 48 bits remain"
-  one : left s r < 48 → Attempts s r known 1 (refusal 1 (byte_after_of r.at) r)
+  one : left s r < 48 → Attempts s r known 1 (refusal NoHeader (byte_after_of r.at) r)
   -- "header sought, no sync found"
   two : 48 ≤ left s r → ((eleven_bits s r).value ≡ 2047 → ⊥) → NoPair s r
-      → Attempts s r known 2 (refusal 2 (byte_at (length s)) (reader_at ((stop s r + 1) * 8)))
+      → Attempts s r known 2 (refusal NoSync (byte_at (length s)) (reader_at ((stop s r + 1) * 8)))
   -- "version not 3, or layer not 2"
   three : {b : BytePos} {q : Reader} → 48 ≤ left s r → Synced s r b q → (Identified s q → ⊥)
-      → Attempts s r known 3 (refusal 3 b (protection s q).next)
+      → Attempts s r known 3 (refusal OtherLayer b (protection s q).next)
   -- "bit-rate field 0 or 15"
   four : {b : BytePos} {q : Reader} → 48 ≤ left s r → Synced s r b q → Identified s q → ((bitrate s q).value ≡ 0) ⊎ ((bitrate s q).value ≡ 15)
-      → Attempts s r known 4 (refusal 4 b (bitrate s q).next)
+      → Attempts s r known 4 (refusal NoBitRate b (bitrate s q).next)
   -- "sample-rate field 3"
   five : {b : BytePos} {q : Reader} → 48 ≤ left s r → Synced s r b q → BitrateGiven s q → (samplerate s q).value ≡ 3
-      → Attempts s r known 5 (refusal 5 b (samplerate s q).next)
+      → Attempts s r known 5 (refusal NoSampleRate b (samplerate s q).next)
   -- 02, E3: a bit rate that the standard keeps for one mode; "after 5 and before 6; position as for 6"
   thirteen : {b : BytePos} {q : Reader} → 48 ≤ left s r → Synced s r b q → BitrateGiven s q → ((samplerate s q).value ≡ 3 → ⊥)
       → pair_barred s q known.reading ≡ true
-      → Attempts s r known 13 (refusal 13 b (mode s q).next)
+      → Attempts s r known 13 (refusal BarredRate b (mode s q).next)
   -- "a header was accepted earlier, and bit rate, sample rate or mode differs"
   six : {b : BytePos} {q : Reader} → 48 ≤ left s r → Synced s r b q → BitrateGiven s q → ((samplerate s q).value ≡ 3 → ⊥)
       → pair_barred s q known.reading ≡ false
       → (known.samplerate ≡ 3 → ⊥) → (SameFormat known (format_by s q known.reading) → ⊥)
-      → Attempts s r known 6 (refusal 6 b (mode s q).next)
+      → Attempts s r known 6 (refusal OtherFormat b (mode s q).next)
   -- "header accepted"
   zero : {b : BytePos} {q : Reader} → 48 ≤ left s r → Synced s r b q → BitrateGiven s q → ((samplerate s q).value ≡ 3 → ⊥)
       → pair_barred s q known.reading ≡ false
       → ((known.samplerate ≡ 3 → ⊥) → SameFormat known (format_by s q known.reading))
-      → Attempts s r known 0 (record { header = Accepted (format_by s q known.reading) (data_size s q); sync = b; next = after_check s q })
+      → Attempts s r known 0 (record { header = Ok (accepted (format_by s q known.reading) (data_size s q)); sync = b; next = after_check s q })
 
 -- ---- the course of the fields: one choice after the other
 
@@ -172,43 +170,44 @@ module _ (s : List ℕ) (q : Reader) (known : Format) where
   barred_pair = pair_barred s q known.reading
 
   -- the check word is passed
-  check_course : (check : Bool) (x : ℕ) (g : ℕ → Header) (r : Reader)
-      → run (check_of check >>= (λ _. done x) >>= (λ b. done (g b))) s r ≡ ran (g x) (cond check (field_of s r 16).next r)
+  check_course : (check : Bool) (x : ℕ) (g : ℕ → Result Accepted Refusal) (r : Reader)
+      → run (check_of check >>= (λ _. done x) >>= (λ b. done (g b))) s r ≡ taken (g x) (cond check (field_of s r 16).next r)
   unfolding check_of run ◌>>=◌
   check_course true x g r = refl
   check_course false x g r = refl
 
   -- 13, then 6, then accepted
-  in_turn : (k d : Bool) (accepted : Ran Header) (r : Reader) → let n : ℕ = cond k 13 (cond d 6 0) in
-      cond (eqb n 0) accepted (ran (Refused n) r) ≡ cond k (ran (Refused 13) r) (cond d (ran (Refused 6) r) accepted)
-  in_turn true d accepted r = refl
-  in_turn false true accepted r = refl
-  in_turn false false accepted r = refl
+  in_turn : (k d : Bool) (more : Reads (Result Accepted Refusal)) (r : Reader)
+      → run (unless_refused (cond k (Some BarredRate) (cond d (Some OtherFormat) None)) more) s r
+      ≡ cond k (taken (Err BarredRate) r) (cond d (taken (Err OtherFormat) r) (run more s r))
+  unfolding run
+  in_turn true d more r = refl
+  in_turn false true more r = refl
+  in_turn false false more r = refl
 
   rest_course : run (rest_of known (checked s q) ((bitrate s q).value - 1) (samplerate s q).value (padding s q).value) s (padding s q).next
-      ≡ cond barred_pair (ran (Refused 13) (mode s q).next)
-      (cond other (ran (Refused 6) (mode s q).next) (ran (Accepted (format_by s q known.reading) (data_size s q)) (after_check s q)))
+      ≡ cond barred_pair (taken (Err BarredRate) (mode s q).next)
+      (cond other (taken (Err OtherFormat) (mode s q).next) (taken (Ok (accepted (format_by s q known.reading) (data_size s q))) (after_check s q)))
   unfolding rest_of mode_of bound_of run ◌>>=◌
   rest_course =
-      let n : ℕ = cond barred_pair 13 (cond other 6 0) in
-      push (λ (m : Reads Header). run m s (mode s q).next) (eqb n 0) _ _
-      ∙ ap (λ (x : Ran Header). cond (eqb n 0) x (ran (Refused n) (mode s q).next)) (check_course (checked s q) _ _ (flags s q).next)
-      ∙ in_turn barred_pair other _ (mode s q).next
+      in_turn barred_pair other _ (mode s q).next
+      ∙ ap (λ (x : Taken (Result Accepted Refusal)). cond barred_pair (taken (Err BarredRate) (mode s q).next) (cond other (taken (Err OtherFormat) (mode s q).next) x))
+      (check_course (checked s q) _ _ (flags s q).next)
 
   rates_course : run (rates_of >>= by_rates known (checked s q)) s (protection s q).next
-      ≡ cond no_bitrate (ran (Refused 4) (bitrate s q).next)
-      (cond (eqb (samplerate s q).value 3) (ran (Refused 5) (samplerate s q).next)
+      ≡ cond no_bitrate (taken (Err NoBitRate) (bitrate s q).next)
+      (cond (eqb (samplerate s q).value 3) (taken (Err NoSampleRate) (samplerate s q).next)
       (run (rest_of known (checked s q) ((bitrate s q).value - 1) (samplerate s q).value (padding s q).value) s (padding s q).next))
   unfolding rates_of run ◌>>=◌
   rates_course =
-      push (λ (m : Reads Rates). run (m >>= by_rates known (checked s q)) s (bitrate s q).next) no_bitrate _ _
-      ∙ ap (cond no_bitrate (ran (Refused 4) (bitrate s q).next))
-      (push (λ (m : Reads Rates). run (m >>= by_rates known (checked s q)) s (samplerate s q).next) (eqb (samplerate s q).value 3) _ _)
+      push (λ (m : Reads (Result Rates Refusal)). run (m >>= by_rates known (checked s q)) s (bitrate s q).next) no_bitrate _ _
+      ∙ ap (cond no_bitrate (taken (Err NoBitRate) (bitrate s q).next))
+      (push (λ (m : Reads (Result Rates Refusal)). run (m >>= by_rates known (checked s q)) s (samplerate s q).next) (eqb (samplerate s q).value 3) _ _)
 
   fields_course : run (fields_of known) s q
-      ≡ cond is_layer_iI (run (rates_of >>= by_rates known (checked s q)) s (protection s q).next) (ran (Refused 3) (protection s q).next)
+      ≡ cond is_layer_iI (run (rates_of >>= by_rates known (checked s q)) s (protection s q).next) (taken (Err OtherLayer) (protection s q).next)
   unfolding fields_of ident_of run ◌>>=◌
-  fields_course = push (λ (i : Ident). run (by_ident known i) s (protection s q).next) is_layer_iI _ _
+  fields_course = push (λ (i : Result Bool Refusal). run (by_ident known i) s (protection s q).next) is_layer_iI _ _
 
 -- what the choices say of the fields
 module _ (s : List ℕ) (q : Reader) (known : Format) where
@@ -241,20 +240,20 @@ module _ (s : List ℕ) (r : Reader) (short : length s ≤ longest_stream) (near
         omega arith
 
     seek_course : seek_of s (eleven_bits s r).next
-        ≡ cond (ltb (stop s r) (length s - 1)) (At (byte_at (stop s r)) (reader_at ((stop s r + 1) * 8 + 3)))
-        (StartRefused 2 (byte_at (length s)) (reader_at ((stop s r + 1) * 8)))
+        ≡ cond (ltb (stop s r) (length s - 1)) (Ok (taken (byte_at (stop s r)) (reader_at ((stop s r + 1) * 8 + 3))))
+        (Err (unsynced NoSync (byte_at (length s)) (reader_at ((stop s r + 1) * 8))))
     unfolding seek_of search_of
     seek_course =
         simp (le-ltb _ _ short, le-ltb _ _ eleven_near) (push (by_search (eleven_bits s r).next) (ltb (stop s r) (length s - 1)) _ _)
 
     start_course : start_of s r
-        ≡ cond (eqb (eleven_bits s r).value 2047) (At (byte_at (past s r)) (eleven_bits s r).next) (seek_of s (eleven_bits s r).next)
+        ≡ cond (eqb (eleven_bits s r).value 2047) (Ok (taken (byte_at (past s r)) (eleven_bits s r).next)) (seek_of s (eleven_bits s r).next)
     unfolding start_of has_of skip_bytes_of sync_of
     start_course =
         let whole : past s r * 8 / 8 ≡ past s r = omega arith in
         simp (le-ltb _ _ short, le-ltb _ _ near, le-ltb _ _ room, whole)
 
-    synced : {b : BytePos} {q : Reader} → Synced s r b q → start_of s r ≡ At b q
+    synced : {b : BytePos} {q : Reader} → Synced s r b q → start_of s r ≡ Ok (taken b q)
     synced (in_place e) = start_course ∙ simp (eq-eqb _ _ e)
     synced (searched n l) = start_course ∙ simp (ne_eqb _ _ n) (seek_course ∙ simp (lt-ltb _ _ l))
 
@@ -271,7 +270,7 @@ module _ (s : List ℕ) (r : Reader) (short : length s ≤ longest_stream) (near
         (by_test S (is_layer_iI s q known) _ _ (λ i. rated (is_layer s q known i))
         (λ i. three room y (λ l. never (rw (eq-eqb _ _ l.version_3, eq-eqb _ _ l.layer_2)) i)))
       where
-        S : Ran Header → Type 0
+        S : Taken (Result Accepted Refusal) → Type 0
         S x = Stands (attempt b x)
 
         rated : Identified s q → S (run (rates_of >>= by_rates known (checked s q)) s (protection s q).next)
@@ -289,7 +288,7 @@ module _ (s : List ℕ) (r : Reader) (short : length s ≤ longest_stream) (near
     unfolding Stands header_of
     attempt_stands = go (ltb (left s r) 48) refl
       where
-        S : Start → Type 0
+        S : Result (Taken BytePos) Unsynced → Type 0
         S x = Stands (by_start s known x)
 
         go : (t : Bool) → ltb (left s r) 48 ≡ t → S (start_of s r)
@@ -306,10 +305,10 @@ module _ (s : List ℕ) (r : Reader) (short : length s ≤ longest_stream) (near
     unfolding header_of
     after_a_sync room y = ap (by_start s known) (synced room y)
 
-    unsynced : 48 ≤ left s r → ((eleven_bits s r).value ≡ 2047 → ⊥) → length s - 1 ≤ stop s r
-        → header_of s r known ≡ refusal 2 (byte_at (length s)) (reader_at ((stop s r + 1) * 8))
+    none_found : 48 ≤ left s r → ((eleven_bits s r).value ≡ 2047 → ⊥) → length s - 1 ≤ stop s r
+        → header_of s r known ≡ refusal NoSync (byte_at (length s)) (reader_at ((stop s r + 1) * 8))
     unfolding header_of
-    unsynced room o l = rw (start_course room, seek_course room, ne_eqb _ _ o, le-ltb _ _ l)
+    none_found room o l = rw (start_course room, seek_course room, ne_eqb _ _ o, le-ltb _ _ l)
 
     layer_course : {b : BytePos} {q : Reader} → 48 ≤ left s r → Synced s r b q → Identified s q
         → header_of s r known ≡ attempt b (run (rates_of >>= by_rates known (checked s q)) s (protection s q).next)
@@ -319,9 +318,9 @@ module _ (s : List ℕ) (r : Reader) (short : length s ≤ longest_stream) (near
     rated_course : {b : BytePos} {q : Reader} → 48 ≤ left s r → Synced s r b q → BitrateGiven s q
         → header_of s r known
         ≡ attempt b
-        (cond (eqb (samplerate s q).value 3) (ran (Refused 5) (samplerate s q).next)
-        (cond (barred_pair s q known) (ran (Refused 13) (mode s q).next)
-        (cond (other s q known) (ran (Refused 6) (mode s q).next) (ran (Accepted (format_by s q known.reading) (data_size s q)) (after_check s q)))))
+        (cond (eqb (samplerate s q).value 3) (taken (Err NoSampleRate) (samplerate s q).next)
+        (cond (barred_pair s q known) (taken (Err BarredRate) (mode s q).next)
+        (cond (other s q known) (taken (Err OtherFormat) (mode s q).next) (taken (Ok (accepted (format_by s q known.reading) (data_size s q))) (after_check s q)))))
     rated_course {b} {q} room y u =
         layer_course room y u.ident
         ∙ ap (attempt b)
@@ -329,7 +328,7 @@ module _ (s : List ℕ) (r : Reader) (short : length s ≤ longest_stream) (near
 
     attempt_only : {n : ℕ} {x : Attempt} → Attempts s r known n x → (x ≡ header_of s r known) × (header_number x.header ≡ n)
     attempt_only (one l) = (rw (few_bits_stay s r known short near l), refl)
-    attempt_only (two room o f) = (rw (unsynced room o ((no_pair_found s (from s r)).1 f)), refl)
+    attempt_only (two room o f) = (rw (none_found room o ((no_pair_found s (from s r)).1 f)), refl)
     attempt_only (three {q = q} room y n) = (rw (after_a_sync room y, fields_course s q known, not_layer s q known n), refl)
     attempt_only (four {q = q} room y l b) = (rw (layer_course room y l, rates_course s q known, not_a_bitrate s q known b), refl)
     attempt_only (five {q = q} room y u f) = (rw (rated_course room y u, eq-eqb _ _ f), refl)

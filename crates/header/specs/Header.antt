@@ -1,77 +1,79 @@
 -- One header attempt: 01, "From the bytes to a header". The fields after the sync stand in the order of
 -- ISO/IEC 11172-3, 2.4.1.3: ID, layer, protection_bit, bitrate_index, sampling_frequency, padding_bit, private_bit,
 -- mode, mode_extension, copyright, original/home, emphasis; then crc_check.
-use Rattle.std.specs.Prelude.{ℕ, ◌+◌, ◌-◌, ◌*◌, ◌/◌, Bool, cond, not, ◌&&◌, ◌||◌, List, eqb}
+use Rattle.std.specs.Prelude.{ℕ, ◌+◌, ◌-◌, ◌*◌, ◌/◌, Bool, true, false, Option, Some, None, Result, Ok, Err, cond, not, ◌&&◌, ◌||◌, List, eqb}
 use Rattle.buffer.specs.Calls.{byte_pos_of, byte_after_of, field_of, has_of, skip_bytes_of, search_of}
 use Rattle.buffer.specs.declared.BytePos.{BytePos}
 use Rattle.buffer.specs.declared.Reader.{Reader}
-use Rattle.buffer.specs.declared.Holds.{Holds}
-use Rattle.buffer.specs.declared.Holds.TheVariants.{Yes, No, Refused as HoldsRefused}
-use Rattle.buffer.specs.declared.Skipped.{Skipped}
-use Rattle.buffer.specs.declared.Skipped.TheVariants.{Bytes, Refused as SkippedRefused}
 use Rattle.buffer.specs.declared.Sync.{Sync}
-use Rattle.buffer.specs.declared.Sync.TheVariants.{Found, Missing, Refused as SyncRefused}
-use Rattle.grammar.specs.Reads.{Reads, done, ask, ◌>>=◌, Ran, run}
+use Rattle.buffer.specs.declared.Sync.TheVariants.{Found, Missing}
+use Rattle.grammar.specs.Reads.{Reads, done, ask, ◌>>=◌, Taken, taken, run}
 use Rattle.tables.specs.Standard.{kbps_of, rate_of}
 use Rattle.readings.specs.Pairs.{barred}
-use Rattle.header.specs.declared.Ident.{Ident}
-use Rattle.header.specs.declared.Ident.TheVariants.{LayerII, Refused as IdentRefused}
+use Rattle.buffer.specs.Numbers.{result_number}
+use Rattle.refusal.specs.declared.Refusal.{Refusal}
+use Rattle.refusal.specs.declared.Refusal.TheVariants.{NoHeader, NoSync, OtherLayer, NoBitRate, NoSampleRate, OtherFormat, BarredRate}
 use Rattle.header.specs.declared.Rates.{Rates}
-use Rattle.header.specs.declared.Rates.TheVariants.{Known, Refused as RatesRefused}
 use Rattle.header.specs.declared.Format.{Format}
-use Rattle.header.specs.declared.Header.{Header}
-use Rattle.header.specs.declared.Header.TheVariants.{Accepted, Refused}
+use Rattle.header.specs.declared.Accepted.{Accepted}
 use Rattle.header.specs.declared.Attempt.{Attempt}
-use Rattle.header.specs.declared.Start.{Start}
-use Rattle.header.specs.declared.Start.TheVariants.{At, Refused as StartRefused}
+use Rattle.header.specs.declared.Unsynced.{Unsynced}
+use Rattle.header.specs.declared.Stopped.{Stopped}
 
 -- ---- the sync
 
+-- no sync, with the byte of the FF, or the length if there is none, and the reader's place
+abbrev pub unsynced : Refusal → BytePos → Reader → Unsynced
+unsynced e sync r = record { refusal = e; sync = sync; next = r }
+
 -- where nothing was sought: the byte that starts at the position or after it
-abbrev pub unsought_of : ℕ → Reader → Start
-unsought_of n r = StartRefused n (byte_after_of r.at) r
+abbrev pub unsought_of : Refusal → Reader → Unsynced
+unsought_of e r = unsynced e (byte_after_of r.at) r
 
--- a pair found; none, which is 2; what the reader refuses is handed on. Beside each the byte of the FF, or the length if there is none
-abbrev pub by_search : Reader → Sync → Start
-by_search r (Found sync skipped next) = At sync next
-by_search r (Missing sync skipped next) = StartRefused 2 sync next
-by_search r (SyncRefused n) = unsought_of n r
+-- a pair found; none, which is 2; what the reader refuses is handed on
+abbrev pub by_search : Reader → Result Sync Refusal → Result (Taken BytePos) Unsynced
+by_search r (Ok (Found sync skipped next)) = Ok (taken sync next)
+by_search r (Ok (Missing sync skipped next)) = Err (unsynced NoSync sync next)
+by_search r (Err e) = Err (unsought_of e r)
 
-unfoldable pub seek_of : List ℕ → Reader → Start
+unfoldable pub seek_of : List ℕ → Reader → Result (Taken BytePos) Unsynced
 seek_of s r = by_search r (search_of s r)
 
 -- "reads 11 bits. If they are not all ones, the search starts at the byte holding the reading position"
-unfoldable pub sync_of : List ℕ → Reader → Start
+unfoldable pub sync_of : List ℕ → Reader → Result (Taken BytePos) Unsynced
 sync_of s r =
-    cond (eqb (field_of s r 11).value 2047) (At (byte_pos_of r.at) (field_of s r 11).next) (seek_of s (field_of s r 11).next)
+    cond (eqb (field_of s r 11).value 2047) (Ok (taken (byte_pos_of r.at) (field_of s r 11).next)) (seek_of s (field_of s r 11).next)
 
 -- "it aligns, passes zero bytes"
-abbrev pub by_skip : List ℕ → Reader → Skipped → Start
-by_skip s r (Bytes n next) = sync_of s next
-by_skip s r (SkippedRefused n) = unsought_of n r
+abbrev pub by_skip : List ℕ → Reader → Result (Taken ℕ) Refusal → Result (Taken BytePos) Unsynced
+by_skip s r (Ok zeros) = sync_of s zeros.next
+by_skip s r (Err e) = Err (unsought_of e r)
 
 -- "a header attempt needs 48 bits": else 1
-abbrev pub by_has : List ℕ → Reader → Holds → Start
-by_has s r Yes = by_skip s r (skip_bytes_of s r 0)
-by_has s r No = unsought_of 1 r
-by_has s r (HoldsRefused n) = unsought_of n r
+abbrev pub by_has : List ℕ → Reader → Result Bool Refusal → Result (Taken BytePos) Unsynced
+by_has s r (Ok true) = by_skip s r (skip_bytes_of s r 0)
+by_has s r (Ok false) = Err (unsought_of NoHeader r)
+by_has s r (Err e) = Err (unsought_of e r)
 
-unfoldable pub start_of : List ℕ → Reader → Start
+unfoldable pub start_of : List ℕ → Reader → Result (Taken BytePos) Unsynced
 start_of s r = by_has s r (has_of s r 48)
 
 -- ---- the fields after it
 
 -- version 2 bits, layer 2, protection 1 (0 means a check word); 3 "falls after the protection bit"
-unfoldable pub ident_of : Reads Ident
+unfoldable pub ident_of : Reads (Result Bool Refusal)
 ident_of =
     ask 2 λ version. ask 2 λ layer. ask 1 λ protection.
-    done (cond (eqb version 3 && eqb layer 2) (LayerII (eqb protection 0)) (IdentRefused 3))
+    done (cond (eqb version 3 && eqb layer 2) (Ok (eqb protection 0)) (Err OtherLayer))
+
+abbrev pub rates : ℕ → ℕ → ℕ → Rates
+rates bitrate samplerate padding = record { bitrate = bitrate; samplerate = samplerate; padding = padding }
 
 -- bit rate 4, sample rate 2, padding 1; 4 and 5 "as soon as their field is read"
-unfoldable pub rates_of : Reads Rates
+unfoldable pub rates_of : Reads (Result Rates Refusal)
 rates_of =
-    ask 4 λ b. cond (eqb b 0 || eqb b 15) (done (RatesRefused 4))
-    (ask 2 λ f. cond (eqb f 3) (done (RatesRefused 5)) (ask 1 λ p. done (Known (b - 1) f p)))
+    ask 4 λ b. cond (eqb b 0 || eqb b 15) (done (Err NoBitRate))
+    (ask 2 λ f. cond (eqb f 3) (done (Err NoSampleRate)) (ask 1 λ p. done (Ok (rates (b - 1) f p))))
 
 -- private 1, mode 2
 unfoldable pub mode_of : Reads ℕ
@@ -106,42 +108,56 @@ differs known bitrate samplerate mode =
     not (eqb known.samplerate 3)
     && (not (eqb known.bitrate bitrate) || not (eqb known.samplerate samplerate) || not (eqb known.mode mode))
 
--- the numbers that fall "after the mode": 13 "before 6", then 6; or 0
-abbrev pub after_mode_of : Format → ℕ → ℕ → ℕ → ℕ
-after_mode_of known bitrate samplerate mode = cond (barred known.reading bitrate mode) 13 (cond (differs known bitrate samplerate mode) 6 0)
+-- the refusals that fall "after the mode": 13 "before 6", then 6; or none
+abbrev pub after_mode_of : Format → ℕ → ℕ → ℕ → Option Refusal
+after_mode_of known bitrate samplerate mode =
+    cond (barred known.reading bitrate mode) (Some BarredRate) (cond (differs known bitrate samplerate mode) (Some OtherFormat) None)
 
--- with 0 the header is accepted, with its format and its data size
-unfoldable pub rest_of : Format → Bool → ℕ → ℕ → ℕ → Reads Header
+-- a refusal ends the reading; without one it goes on
+abbrev pub unless_refused : {A : Type 0} → Option Refusal → Reads (Result A Refusal) → Reads (Result A Refusal)
+unless_refused (Some e) more = done (Err e)
+unless_refused None more = more
+
+abbrev pub accepted : Format → ℕ → Accepted
+accepted f size = record { format = f; size = size }
+
+-- without a refusal the header is accepted, with its format and its data size
+unfoldable pub rest_of : Format → Bool → ℕ → ℕ → ℕ → Reads (Result Accepted Refusal)
 rest_of known check bitrate samplerate padding =
-    mode_of >>= λ mode. cond (eqb (after_mode_of known bitrate samplerate mode) 0)
+    mode_of >>= λ mode. unless_refused (after_mode_of known bitrate samplerate mode)
     (bound_of mode check >>= λ bound.
     done
-    (Accepted (record { reading = known.reading; samplerate = samplerate; bitrate = bitrate; mode = mode; bound = bound })
-    (size_of bitrate samplerate padding check)))
-    (done (Refused (after_mode_of known bitrate samplerate mode)))
+    (Ok
+    (accepted (record { reading = known.reading; samplerate = samplerate; bitrate = bitrate; mode = mode; bound = bound })
+    (size_of bitrate samplerate padding check))))
 
-abbrev pub by_rates : Format → Bool → Rates → Reads Header
-by_rates known check (Known bitrate samplerate padding) = rest_of known check bitrate samplerate padding
-by_rates known check (RatesRefused n) = done (Refused n)
+abbrev pub by_rates : Format → Bool → Result Rates Refusal → Reads (Result Accepted Refusal)
+by_rates known check (Ok x) = rest_of known check x.bitrate x.samplerate x.padding
+by_rates known check (Err e) = done (Err e)
 
-abbrev pub by_ident : Format → Ident → Reads Header
-by_ident known (LayerII check) = rates_of >>= by_rates known check
-by_ident known (IdentRefused n) = done (Refused n)
+abbrev pub by_ident : Format → Result Bool Refusal → Reads (Result Accepted Refusal)
+by_ident known (Ok check) = rates_of >>= by_rates known check
+by_ident known (Err e) = done (Err e)
 
-unfoldable pub fields_of : Format → Reads Header
+unfoldable pub fields_of : Format → Reads (Result Accepted Refusal)
 fields_of known = ident_of >>= by_ident known
+
+-- a reading that can be refused, with its reader beside the answer: the form that `run` gives
+abbrev pub settled : {A : Type 0} → Result (Taken A) Stopped → Taken (Result A Refusal)
+settled (Ok x) = taken (Ok x.value) x.next
+settled (Err e) = taken (Err e.refusal) e.next
 
 -- ---- the attempt
 
-abbrev pub attempt : BytePos → Ran Header → Attempt
+abbrev pub attempt : BytePos → Taken (Result Accepted Refusal) → Attempt
 attempt sync x = record { header = x.value; sync = sync; next = x.next }
 
-abbrev pub refusal : ℕ → BytePos → Reader → Attempt
-refusal n sync r = record { header = Refused n; sync = sync; next = r }
+abbrev pub refusal : Refusal → BytePos → Reader → Attempt
+refusal e sync r = record { header = Err e; sync = sync; next = r }
 
-abbrev pub by_start : List ℕ → Format → Start → Attempt
-by_start s known (At sync r) = attempt sync (run (fields_of known) s r)
-by_start s known (StartRefused n sync r) = refusal n sync r
+abbrev pub by_start : List ℕ → Format → Result (Taken BytePos) Unsynced → Attempt
+by_start s known (Ok x) = attempt x.value (run (fields_of known) s x.next)
+by_start s known (Err e) = refusal e.refusal e.sync e.next
 
 unfoldable pub header_of : List ℕ → Reader → Format → Attempt
 header_of s r known = by_start s known (start_of s r)
@@ -151,6 +167,5 @@ abbrev pub passed_by : Reader → Attempt → ℕ
 passed_by r t = t.sync.0 - (byte_after_of r.at).0
 
 -- 01's number of an attempt
-abbrev pub header_number : Header → ℕ
-header_number (Accepted f n) = 0
-header_number (Refused n) = n
+abbrev pub header_number : Result Accepted Refusal → ℕ
+header_number = result_number

@@ -1,6 +1,6 @@
 -- How far an attempt made with 48 bits left moves: at least 16 bits past its aligned start, and at most 8 past the stream's end.
 -- 01, the end of "From the bytes to a header". Assumes nothing.
-use Rattle.std.specs.Prelude.{ℕ, ◌+◌, ◌-◌, ◌*◌, ◌/◌, ◌≤◌, ◌<◌, ◌≡◌, List, length, eqb, ltb}
+use Rattle.std.specs.Prelude.{ℕ, ◌+◌, ◌-◌, ◌*◌, ◌/◌, ◌≤◌, ◌<◌, ◌≡◌, List, length, eqb, ltb, Result, Ok, Err}
 use native.Mathlib.Omega.{arith}
 use borrow.Author.Tests.{lt-ltb, le-ltb, eqb-true, ltb-true, ltb-false}
 use Rattle.ground.specs.Tests.{by_test}
@@ -9,18 +9,19 @@ use Rattle.buffer.specs.Bits.{longest_stream, farthest_bit, other_at, pair_at, p
 use Rattle.buffer.specs.Calls.{aligned, byte_after_of, reader_at, left, field_of, has_of, skip_bytes_of, search_of}
 use Rattle.buffer.specs.Laws.{Enough, field_read, field_moves}
 use Rattle.buffer.specs.declared.Reader.{Reader}
-use Rattle.grammar.specs.Reads.{run, called}
+use Rattle.grammar.specs.Reads.{Taken, run, called}
 use Rattle.grammar.specs.Run.{run_bind}
 use Rattle.grammar.specs.Widths.{Narrow, exact, run_moves}
 use Rattle.header.specs.declared.Format.{Format}
-use Rattle.header.specs.declared.Start.{Start}
-use Rattle.header.specs.declared.Start.TheVariants.{At, Refused as StartRefused}
+use Rattle.buffer.specs.declared.BytePos.{BytePos}
+use Rattle.refusal.specs.declared.Refusal.TheVariants.{NoHeader, LongStream, BadState}
+use Rattle.header.specs.declared.Unsynced.{Unsynced}
 use Rattle.header.specs.Header.{ident_of, by_ident, fields_of, by_search, seek_of, sync_of, start_of, refusal, by_start, header_of}
 
 -- a place from b on at which the 5 bits after the 11 ones are there; or a refusal at least 16 bits on, at most 8 past the end
-abbrev Begun : List ℕ → ℕ → Start → Type 0
-Begun s b (At sync q) = (b + 11 ≤ q.at.0) × (q.at.0 + 5 ≤ 8 * length s)
-Begun s b (StartRefused n sync q) = (b + 16 ≤ q.at.0) × (q.at.0 ≤ 8 * length s + 8)
+abbrev Begun : List ℕ → ℕ → Result (Taken BytePos) Unsynced → Type 0
+Begun s b (Ok x) = (b + 11 ≤ x.next.at.0) × (x.next.at.0 + 5 ≤ 8 * length s)
+Begun s b (Err e) = (b + 16 ≤ e.next.at.0) × (e.next.at.0 ≤ 8 * length s + 8)
 
 -- the search, from a place of the stream at or after byte `from`, whose bit lies 41 bits or more before the end
 module _ (s : List ℕ) (short : length s ≤ longest_stream) (from : ℕ) (room : from * 8 + 41 ≤ 8 * length s) where
@@ -68,12 +69,12 @@ fields_move s known r h =
     let m = run_moves (by_ident known (run ident_of s r).value) s (run ident_of s r).next in
     (omega arith, omega arith))
 
-begun_moves : (s : List ℕ) (known : Format) (b : ℕ) (x : Start) → length s ≤ longest_stream → Begun s b x
+begun_moves : (s : List ℕ) (known : Format) (b : ℕ) (x : Result (Taken BytePos) Unsynced) → length s ≤ longest_stream → Begun s b x
     → (b + 16 ≤ (by_start s known x).next.at.0) × ((by_start s known x).next.at.0 ≤ 8 * length s + 8)
-begun_moves s known b (At sync q) short h =
-    let m = fields_move s known q (record { short = short; near = omega arith; enough = omega arith }) in
+begun_moves s known b (Ok x) short h =
+    let m = fields_move s known x.next (record { short = short; near = omega arith; enough = omega arith }) in
     (omega arith, omega arith)
-begun_moves s known b (StartRefused n sync q) short h = h
+begun_moves s known b (Err e) short h = h
 
 pub attempt_moves : (s : List ℕ) (r : Reader) (known : Format) → Enough s r 48
     → ((aligned r).at.0 + 16 ≤ (header_of s r known).next.at.0) × ((header_of s r known).next.at.0 ≤ 8 * length s + 8)
@@ -82,16 +83,16 @@ attempt_moves s r known h = begun_moves s known (aligned r).at.0 (start_of s r) 
 
 -- with fewer than 48 bits left it stays
 pub few_bits_stay : (s : List ℕ) (r : Reader) (known : Format) → length s ≤ longest_stream → r.at.0 ≤ farthest_bit → left s r < 48
-    → header_of s r known ≡ refusal 1 (byte_after_of r.at) r
+    → header_of s r known ≡ refusal NoHeader (byte_after_of r.at) r
 unfolding header_of start_of has_of
 few_bits_stay s r known short near few = simp (le-ltb _ _ short, le-ltb _ _ near, lt-ltb _ _ few)
 
 -- a stream that is too long and a position that is too far are told before anything is sought
-pub long_streams_stay : (s : List ℕ) (r : Reader) (known : Format) → longest_stream < length s → header_of s r known ≡ refusal 8 (byte_after_of r.at) r
+pub long_streams_stay : (s : List ℕ) (r : Reader) (known : Format) → longest_stream < length s → header_of s r known ≡ refusal LongStream (byte_after_of r.at) r
 unfolding header_of start_of has_of
 long_streams_stay s r known long = simp (lt-ltb _ _ long)
 
 pub far_readers_stay : (s : List ℕ) (r : Reader) (known : Format) → length s ≤ longest_stream → farthest_bit < r.at.0
-    → header_of s r known ≡ refusal 10 (byte_after_of r.at) r
+    → header_of s r known ≡ refusal BadState (byte_after_of r.at) r
 unfolding header_of start_of has_of
 far_readers_stay s r known short far = simp (le-ltb _ _ short, lt-ltb _ _ far)

@@ -1,6 +1,6 @@
 -- What an attempt passed over: from its aligned start to the FF of the sync, or to the stream's end if there is none. From 02, E2.
 -- Assumes nothing.
-use Rattle.std.specs.Prelude.{ℕ, ◌+◌, ◌-◌, ◌*◌, ◌/◌, ◌%◌, ◌≤◌, ◌<◌, max, ◌≡◌, refl, Bool, true, false, List, eqb, ltb, length, get_or}
+use Rattle.std.specs.Prelude.{ℕ, ◌+◌, ◌-◌, ◌*◌, ◌/◌, ◌%◌, ◌≤◌, ◌<◌, max, ◌≡◌, refl, Bool, true, false, List, eqb, ltb, length, get_or, Result, Ok, Err}
 use Rattle.std.proofs.Common.{sym, ap, ◌∙◌, arith, eqb-true, ltb-true, ltb-false}
 use Rattle.std.proofs.Math.Decide.{ℕ_discrete}
 use Rattle.std.proofs.lemmas.Bool.{not-false}
@@ -12,13 +12,13 @@ use Rattle.buffer.specs.Calls.{reader_at, byte_after_of, left, field_of, has_of,
 use Rattle.buffer.specs.Laws.{field_whole, field_read, field_moves}
 use Rattle.buffer.specs.PairLaws.{pair_found, pair_is_ff, pair_ones, ones_are_ff}
 use Rattle.buffer.specs.declared.BytePos.{BytePos}
-use Rattle.buffer.specs.declared.Holds.{Holds}
+use Rattle.grammar.specs.Reads.{Taken}
 use Rattle.buffer.specs.declared.Reader.{Reader}
 use Rattle.buffer.specs.declared.Sync.{Sync}
 use Rattle.header.specs.declared.Attempt.{Attempt}
 use Rattle.header.specs.declared.Format.{Format}
-use Rattle.header.specs.declared.Start.{Start}
-use Rattle.header.specs.declared.Start.TheVariants.{At, Refused as StartRefused}
+use Rattle.refusal.specs.declared.Refusal.{Refusal}
+use Rattle.header.specs.declared.Unsynced.{Unsynced}
 use Rattle.header.specs.Header.{by_search, seek_of, sync_of, by_has, start_of, by_start, header_of}
 use Rattle.header.specs.Attempts.{past, eleven_bits, from, stop, NoPair, Synced, in_place, searched, Attempts, one, two, three, four, five, thirteen, six, zero}
 
@@ -137,9 +137,9 @@ attempt_passed {s} {r} short near (zero room y _ _ _ _) = met_passed 0 (λ e. om
 abbrev Within : List ℕ → ℕ → BytePos → Type 0
 Within s b sync = (b ≤ sync.0) × (sync.0 ≤ max b (length s))
 
-abbrev Starts : List ℕ → ℕ → Start → Type 0
-Starts s b (At sync q) = Within s b sync
-Starts s b (StartRefused n sync q) = Within s b sync
+abbrev Starts : List ℕ → ℕ → Result (Taken BytePos) Unsynced → Type 0
+Starts s b (Ok x) = Within s b x.value
+Starts s b (Err e) = Within s b e.sync
 
 -- a search from byte b or behind it, and not past the end
 seek_within : (s : List ℕ) (b : ℕ) (r : Reader) → b * 8 ≤ r.at.0 → r.at.0 ≤ 8 * length s → Starts s b (seek_of s r)
@@ -151,7 +151,7 @@ seek_within s b r low high =
     (λ _. by_test P (ltb (stop_of s (r.at.0 / 8)) (length s - 1)) _ _
     (λ t. let l = ltb-true (stop_of s (r.at.0 / 8)) (length s - 1) t in (omega arith, omega arith)) (λ _. (omega arith, omega arith))))
   where
-    P : Sync → Type 0
+    P : Result Sync Refusal → Type 0
     P x = Starts s b (by_search r x)
 
 sync_starts : (s : List ℕ) (b p : ℕ) → b ≤ p → p ≤ length s → Starts s b (sync_of s (reader_at (p * 8)))
@@ -173,7 +173,7 @@ start_within s r =
     let enough : 48 ≤ left s r = ltb-false _ _ room in
     simp (short, near) (sync_starts s b (past_of s 0 b) (omega arith) (omega arith)))))
   where
-    P : Holds → Type 0
+    P : Result Bool Refusal → Type 0
     P h = Starts s ((r.at.0 + 7) / 8) (by_has s r h)
 
 pub sync_within : (s : List ℕ) (r : Reader) (known : Format) → let b = (header_of s r known).sync.0 in let start = (byte_after_of r.at).0 in
@@ -181,6 +181,6 @@ pub sync_within : (s : List ℕ) (r : Reader) (known : Format) → let b = (head
 unfolding header_of
 sync_within s r known = go (start_of s r) (start_within s r)
   where
-    go : (x : Start) → Starts s ((r.at.0 + 7) / 8) x → Within s ((r.at.0 + 7) / 8) (by_start s known x).sync
-    go (At sync q) w = w
-    go (StartRefused n sync q) w = w
+    go : (x : Result (Taken BytePos) Unsynced) → Starts s ((r.at.0 + 7) / 8) x → Within s ((r.at.0 + 7) / 8) (by_start s known x).sync
+    go (Ok x) w = w
+    go (Err e) w = w

@@ -1,15 +1,15 @@
 -- A header's numbers, computed: 01's rows 2 to 5, the data sizes of headers at the start of a stream; every bound; every data
 -- size; what is passed over; and the strict reading's 13.
 -- Assumes nothing.
-use Rattle.std.specs.Prelude.{ℕ, ◌≡◌, refl, false, List, ◌∷◌, [], ◌++◌, map, replicate}
+use Rattle.std.specs.Prelude.{ℕ, ◌≡◌, refl, false, List, ◌∷◌, [], ◌++◌, map, replicate, Result, Ok, Err}
 use Rattle.ground.specs.First.{first_from}
 use Rattle.buffer.specs.Bits.{bit_at, bits_value}
 use Rattle.buffer.specs.Calls.{reader_at, read_of, field_of, has_of, skip_bytes_of, search_of}
 use Rattle.grammar.specs.Reads.{◌>>=◌, run}
 use Rattle.readings.specs.Readings.{plain, reading_by}
 use Rattle.header.specs.declared.Format.{Format}
-use Rattle.header.specs.declared.Header.{Header}
-use Rattle.header.specs.declared.Header.TheVariants.{Accepted, Refused}
+use Rattle.refusal.specs.declared.Refusal.{Refusal}
+use Rattle.header.specs.declared.Accepted.{Accepted}
 use Rattle.header.specs.Header.{bound_by, passed_by, header_number, header_of, start_of, sync_of, seek_of, fields_of, ident_of, rates_of, rest_of, mode_of, bound_of, check_of, size_of}
 
 -- no header yet
@@ -17,9 +17,9 @@ abbrev pub unknown : Format
 unknown = record { reading = plain; samplerate = 3; bitrate = 0; mode = 0; bound = 0 }
 
 -- the data size that four bytes with zeros behind them announce; 0 where they are refused
-abbrev size_in : Header → ℕ
-size_in (Accepted f n) = n
-size_in (Refused n) = 0
+abbrev size_in : Result Accepted Refusal → ℕ
+size_in (Ok x) = x.size
+size_in (Err e) = 0
 
 unfoldable pub announced : ℕ → ℕ → ℕ → ℕ → ℕ
 announced a b c d = size_in (header_of (a ∷ b ∷ c ∷ d ∷ replicate 40 0) (reader_at 0) unknown).header

@@ -2,11 +2,12 @@
 #![tactic(auto)]
 
 ghost use Rattle.std.specs.Prelude.{◌≡◌, ◌<◌};
-ghost use Rattle.grammar.specs.Reads.{run, ran};
-ghost use Rattle.header.specs.Header.{ident_of, rates_of, mode_of, bound_by, check_of, bound_of, size_of, differs, after_mode_of, rest_of, by_ident, fields_of, unsought_of, seek_of, sync_of, start_of, header_of};
+ghost use Rattle.grammar.specs.Reads.{run, taken};
+ghost use Rattle.header.specs.Header.{ident_of, rates_of, mode_of, bound_by, check_of, bound_of, size_of, differs, after_mode_of, rest_of, fields_of, settled, unsought_of, seek_of, sync_of, start_of, header_of};
 
-use buffer::{BytePos, Field, Holds, Reader, Skipped, Sync};
+use buffer::{BytePos, Reader, Sync, Taken};
 use readings::{MODE_MONO, Reading};
+use refusal::Refusal;
 
 const FRAME_SYNC: u32 = 0x7ff;
 
@@ -32,161 +33,152 @@ pub struct Format {
     pub bound: usize,
 }
 
-// An accepted header has its format and its data size in bytes.
+// An accepted header: its format, and its data size in bytes.
 #[derive(Clone, Copy)]
-pub enum Header {
-    Accepted(Format, usize),
-    Refused(u32),
+pub struct Accepted {
+    pub format: Format,
+    pub size: usize,
 }
 
 // What an attempt gives, and the byte of the sync's FF: the stream's length where there is none, the aligned start where none was sought.
 #[derive(Clone, Copy)]
 pub struct Attempt {
-    pub header: Header,
+    pub header: Result<Accepted, Refusal>,
     pub sync: BytePos,
     pub next: Reader,
 }
 
-// The byte of the FF and the place after the 11 ones; or a refusal, with the same byte and where it leaves the reader.
+// Why there is no sync, and where that leaves the reader. `sync` is as an attempt has it.
 #[derive(Clone, Copy)]
-pub enum Start {
-    At(BytePos, Reader),
-    Refused(u32, BytePos, Reader),
+pub struct Unsynced {
+    pub refusal: Refusal,
+    pub sync: BytePos,
+    pub next: Reader,
 }
 
 // Refused before anything was sought.
-fn unsought(number: u32, reader: Reader) -> Start
-    ensures { result ≡ unsought_of number reader }
+fn unsought(refusal: Refusal, reader: Reader) -> Unsynced
+    ensures { result ≡ unsought_of refusal reader }
 {
-    Start::Refused(number, reader.at.byte_after(), reader)
-}
-
-fn seek(s: &[u8], reader: Reader) -> Start
-    ensures { result ≡ seek_of s.now reader }
-{
-    let found = reader.find_frame_sync(s);
-    match found {
-        Sync::Found { sync, next, .. } => Start::At(sync, next),
-        Sync::Missing { sync, next, .. } => Start::Refused(2, sync, next),
-        Sync::Refused(number) => unsought(number, reader),
+    Unsynced {
+        refusal,
+        sync: reader.at.byte_after(),
+        next: reader,
     }
 }
 
-fn sync(s: &[u8], reader: Reader) -> Start
+// The byte of the FF, and the place after the 11 ones.
+fn seek(s: &[u8], reader: Reader) -> Result<Taken<BytePos>, Unsynced>
+    ensures { result ≡ seek_of s.now reader }
+{
+    let found = match reader.find_frame_sync(s) {
+        Ok(found) => found,
+        Err(refusal) => return Err(unsought(refusal, reader)),
+    };
+    match found {
+        Sync::Found { sync, next, .. } => Ok(Taken { value: sync, next }),
+        Sync::Missing { sync, next, .. } => Err(Unsynced {
+            refusal: Refusal::NoSync,
+            sync,
+            next,
+        }),
+    }
+}
+
+fn sync(s: &[u8], reader: Reader) -> Result<Taken<BytePos>, Unsynced>
     ensures { result ≡ sync_of s.now reader }
 {
     let begin = reader.at.byte();
     let ones = reader.field(s, 11);
     let next = ones.next;
     if ones.value == FRAME_SYNC {
-        return Start::At(begin, next);
+        return Ok(Taken { value: begin, next });
     }
     seek(s, next)
 }
 
-fn find_start(s: &[u8], reader: Reader) -> Start
+fn find_start(s: &[u8], reader: Reader) -> Result<Taken<BytePos>, Unsynced>
     ensures { result ≡ start_of s.now reader }
 {
-    let enough = reader.has(s, 48);
-    match enough {
-        Holds::No => return unsought(1, reader),
-        Holds::Refused(number) => return unsought(number, reader),
-        Holds::Yes => {}
+    match reader.has(s, 48) {
+        Ok(true) => {}
+        Ok(false) => return Err(unsought(Refusal::NoHeader, reader)),
+        Err(refusal) => return Err(unsought(refusal, reader)),
     }
-    let zeros = reader.skip_bytes(s, 0);
-    match zeros {
-        Skipped::Bytes(_, next) => sync(s, next),
-        Skipped::Refused(number) => unsought(number, reader),
+    match reader.skip_bytes(s, 0) {
+        Ok(zeros) => sync(s, zeros.next),
+        Err(refusal) => Err(unsought(refusal, reader)),
     }
 }
 
-// Whether a check word follows the header.
+// A refusal as the fields are read, and the reader behind the field that decided it.
 #[derive(Clone, Copy)]
-pub enum Ident {
-    LayerII(bool),
-    Refused(u32),
-}
-
-#[derive(Clone, Copy)]
-pub struct IdentAt {
-    pub ident: Ident,
+pub struct Stopped {
+    pub refusal: Refusal,
     pub next: Reader,
 }
 
-fn read_ident(s: &[u8], reader: Reader) -> IdentAt
-    ensures { ran result.ident result.next ≡ run ident_of s.now reader }
+// Version and layer, and whether a check word follows the header.
+fn read_ident(s: &[u8], reader: Reader) -> Result<Taken<bool>, Stopped>
+    ensures { settled result ≡ run ident_of s.now reader }
 {
     let version = reader.field(s, 2);
     let layer = version.next.field(s, 2);
     let protection = layer.next.field(s, 1);
     let next = protection.next;
     if (version.value == MPEG_1) & (layer.value == LAYER_II) {
-        return IdentAt {
-            ident: Ident::LayerII(protection.value == 0),
-            next,
-        };
+        let value = protection.value == 0;
+        return Ok(Taken { value, next });
     }
-    IdentAt {
-        ident: Ident::Refused(3),
+    Err(Stopped {
+        refusal: Refusal::OtherLayer,
         next,
-    }
+    })
 }
 
 // The indexes of bit rate and sample rate, and the padding byte.
 #[derive(Clone, Copy)]
-pub enum Rates {
-    Known {
-        bitrate: usize,
-        samplerate: usize,
-        padding: usize,
-    },
-    Refused(u32),
+pub struct Rates {
+    pub bitrate: usize,
+    pub samplerate: usize,
+    pub padding: usize,
 }
 
-#[derive(Clone, Copy)]
-pub struct RatesAt {
-    pub rates: Rates,
-    pub next: Reader,
-}
-
-fn read_rates(s: &[u8], reader: Reader) -> RatesAt
-    ensures { ran result.rates result.next ≡ run rates_of s.now reader }
+fn read_rates(s: &[u8], reader: Reader) -> Result<Taken<Rates>, Stopped>
+    ensures { settled result ≡ run rates_of s.now reader }
 {
     let bitrate = reader.field(s, 4);
-    let one = bitrate.next;
     if (bitrate.value == 0) | (bitrate.value == 15) {
-        return RatesAt {
-            rates: Rates::Refused(4),
-            next: one,
-        };
+        return Err(Stopped {
+            refusal: Refusal::NoBitRate,
+            next: bitrate.next,
+        });
     }
-    let samplerate = one.field(s, 2);
-    let two = samplerate.next;
+    let samplerate = bitrate.next.field(s, 2);
     if samplerate.value == 3 {
-        return RatesAt {
-            rates: Rates::Refused(5),
-            next: two,
-        };
+        return Err(Stopped {
+            refusal: Refusal::NoSampleRate,
+            next: samplerate.next,
+        });
     }
-    let padding = two.field(s, 1);
-    let next = padding.next;
-    RatesAt {
-        rates: Rates::Known {
-            bitrate: (bitrate.value - 1) as usize,
-            samplerate: samplerate.value as usize,
-            padding: padding.value as usize,
-        },
-        next,
-    }
+    let padding = samplerate.next.field(s, 1);
+    let value = Rates {
+        bitrate: (bitrate.value - 1) as usize,
+        samplerate: samplerate.value as usize,
+        padding: padding.value as usize,
+    };
+    Ok(Taken {
+        value,
+        next: padding.next,
+    })
 }
 
 // Past the private bit.
-fn read_mode(s: &[u8], reader: Reader) -> Field
-    ensures { ran result.value result.next ≡ run mode_of s.now reader }
+fn read_mode(s: &[u8], reader: Reader) -> Taken<u32>
+    ensures { result ≡ run mode_of s.now reader }
 {
     let private = reader.field(s, 1);
-    let next = private.next;
-    next.field(s, 2)
+    private.next.field(s, 2)
 }
 
 fn bound_by(mode: u32, extension: usize) -> usize
@@ -203,7 +195,7 @@ fn bound_by(mode: u32, extension: usize) -> usize
 }
 
 fn pass_check(s: &[u8], reader: Reader, check: bool) -> Reader
-    ensures { ran 0 result ≡ run (check_of check) s.now reader }
+    ensures { taken 0 result ≡ run (check_of check) s.now reader }
 {
     if check {
         let word = reader.field(s, 16);
@@ -212,62 +204,53 @@ fn pass_check(s: &[u8], reader: Reader, check: bool) -> Reader
     reader
 }
 
-#[derive(Clone, Copy)]
-pub struct BoundAt {
-    pub bound: usize,
-    pub next: Reader,
-}
-
 // Past the four flag bits and the check word.
-fn read_bound(s: &[u8], reader: Reader, mode: u32, check: bool) -> BoundAt
-    ensures { ran result.bound result.next ≡ run (bound_of mode check) s.now reader }
+fn read_bound(s: &[u8], reader: Reader, mode: u32, check: bool) -> Taken<usize>
+    ensures { result ≡ run (bound_of mode check) s.now reader }
 {
     let extension = reader.field(s, 2);
     let flags = extension.next.field(s, 4);
     let next = pass_check(s, flags.next, check);
-    BoundAt {
-        bound: bound_by(mode, extension.value as usize),
+    Taken {
+        value: bound_by(mode, extension.value as usize),
         next,
     }
 }
 
 // The bytes after the header and the check word.
-fn data_size(bitrate: usize, samplerate: usize, padding: usize, check: bool) -> usize
-    requires { (bitrate < 14) × (samplerate < 3) × (padding < 2) }
-    ensures { result ≡ size_of bitrate samplerate padding check }
+fn data_size(rates: Rates, check: bool) -> usize
+    requires { (rates.bitrate < 14) × (rates.samplerate < 3) × (rates.padding < 2) }
+    ensures { result ≡ size_of rates.bitrate rates.samplerate rates.padding check }
 {
-    let frame = (144000 * tables::kbps(bitrate) / tables::rate(samplerate)) as usize + padding;
+    let kbps = tables::kbps(rates.bitrate);
+    let frame = (144000 * kbps / tables::rate(rates.samplerate)) as usize + rates.padding;
     if check {
         return frame - 6;
     }
     frame - 4
 }
 
-fn other_format(known: Format, bitrate: usize, samplerate: usize, mode: u32) -> bool
-    ensures { result ≡ differs known bitrate samplerate mode }
+fn other_format(known: Format, rates: Rates, mode: u32) -> bool
+    ensures { result ≡ differs known rates.bitrate rates.samplerate mode }
 {
     (known.samplerate != 3)
-        & ((known.bitrate != bitrate) | (known.samplerate != samplerate) | (known.mode != mode))
+        & ((known.bitrate != rates.bitrate)
+            | (known.samplerate != rates.samplerate)
+            | (known.mode != mode))
 }
 
-// 13, else 6, else 0.
-fn refused_after_mode(known: Format, bitrate: usize, samplerate: usize, mode: u32) -> u32
-    requires { bitrate < 14 }
-    ensures { result ≡ after_mode_of known bitrate samplerate mode }
+// 13, else 6, else none.
+fn refused_after_mode(known: Format, rates: Rates, mode: u32) -> Option<Refusal>
+    requires { rates.bitrate < 14 }
+    ensures { result ≡ after_mode_of known rates.bitrate rates.samplerate mode }
 {
-    if readings::barred(known.reading, bitrate, mode) {
-        return 13;
+    if readings::barred(known.reading, rates.bitrate, mode) {
+        return Some(Refusal::BarredRate);
     }
-    if other_format(known, bitrate, samplerate, mode) {
-        return 6;
+    if other_format(known, rates, mode) {
+        return Some(Refusal::OtherFormat);
     }
-    0
-}
-
-#[derive(Clone, Copy)]
-pub struct HeaderAt {
-    pub header: Header,
-    pub next: Reader,
+    None
 }
 
 fn read_rest(
@@ -275,91 +258,65 @@ fn read_rest(
     reader: Reader,
     known: Format,
     check: bool,
-    bitrate: usize,
-    samplerate: usize,
-    padding: usize,
-) -> HeaderAt
-    requires { (bitrate < 14) × (samplerate < 3) × (padding < 2) }
-    ensures { ran result.header result.next ≡ run (rest_of known check bitrate samplerate padding) s.now reader }
+    rates: Rates,
+) -> Result<Taken<Accepted>, Stopped>
+    requires { (rates.bitrate < 14) × (rates.samplerate < 3) × (rates.padding < 2) }
+    ensures { settled result ≡ run (rest_of known check rates.bitrate rates.samplerate rates.padding) s.now reader }
 {
-    let reading = known.reading;
-    let m = read_mode(s, reader);
-    let mode = m.value;
-    let after = m.next;
-    let number = refused_after_mode(known, bitrate, samplerate, mode);
-    if number != 0 {
-        return HeaderAt {
-            header: Header::Refused(number),
-            next: after,
-        };
+    let mode = read_mode(s, reader);
+    if let Some(refusal) = refused_after_mode(known, rates, mode.value) {
+        return Err(Stopped {
+            refusal,
+            next: mode.next,
+        });
     }
-    let b = read_bound(s, after, mode, check);
-    let next = b.next;
-    let size = data_size(bitrate, samplerate, padding, check);
-    HeaderAt {
-        header: Header::Accepted(
-            Format {
-                reading,
-                samplerate,
-                bitrate,
-                mode,
-                bound: b.bound,
-            },
-            size,
-        ),
-        next,
-    }
+    let bound = read_bound(s, mode.next, mode.value, check);
+    let format = Format {
+        samplerate: rates.samplerate,
+        bitrate: rates.bitrate,
+        mode: mode.value,
+        reading: known.reading,
+        bound: bound.value,
+    };
+    let size = data_size(rates, check);
+    Ok(Taken {
+        value: Accepted { format, size },
+        next: bound.next,
+    })
 }
 
-fn read_format(s: &[u8], reader: Reader, known: Format, check: bool) -> HeaderAt
-    ensures { ran result.header result.next ≡ run (by_ident known (Ident.LayerII check)) s.now reader }
+fn read_fields(s: &[u8], reader: Reader, known: Format) -> Result<Taken<Accepted>, Stopped>
+    ensures { settled result ≡ run (fields_of known) s.now reader }
 {
-    let r = read_rates(s, reader);
-    let rates = r.rates;
-    let next = r.next;
-    match rates {
-        Rates::Known {
-            bitrate,
-            samplerate,
-            padding,
-        } => read_rest(s, next, known, check, bitrate, samplerate, padding),
-        Rates::Refused(number) => HeaderAt {
-            header: Header::Refused(number),
-            next,
-        },
-    }
-}
-
-fn read_fields(s: &[u8], reader: Reader, known: Format) -> HeaderAt
-    ensures { ran result.header result.next ≡ run (fields_of known) s.now reader }
-{
-    let i = read_ident(s, reader);
-    let ident = i.ident;
-    let next = i.next;
-    match ident {
-        Ident::LayerII(check) => read_format(s, next, known, check),
-        Ident::Refused(number) => HeaderAt {
-            header: Header::Refused(number),
-            next,
-        },
-    }
+    let check = read_ident(s, reader)?;
+    let rates = read_rates(s, check.next)?;
+    read_rest(s, rates.next, known, check.value, rates.value)
 }
 
 pub fn decode_header(s: &[u8], reader: Reader, known: Format) -> Attempt
     ensures { result ≡ header_of s.now reader known }
 {
-    let start = find_start(s, reader);
-    match start {
-        Start::At(sync, at) => {
-            let read = read_fields(s, at, known);
-            let header = read.header;
-            let next = read.next;
-            Attempt { header, sync, next }
+    let start = match find_start(s, reader) {
+        Ok(start) => start,
+        Err(none) => {
+            return Attempt {
+                header: Err(none.refusal),
+                sync: none.sync,
+                next: none.next,
+            };
         }
-        Start::Refused(number, sync, next) => Attempt {
-            header: Header::Refused(number),
+    };
+    let sync = start.value;
+    match read_fields(s, start.next, known) {
+        Ok(read) => Attempt {
+            header: Ok(read.value),
             sync,
-            next,
+            next: read.next,
+        },
+        Err(stopped) => Attempt {
+            header: Err(stopped.refusal),
+            sync,
+            next: stopped.next,
         },
     }
 }

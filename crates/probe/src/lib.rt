@@ -6,7 +6,7 @@ mod runs;
 
 ghost use Rattle.std.specs.Prelude.{◌≡◌, ◌+◌, ◌<◌, ◌≤◌, length, slice_set};
 ghost use Rattle.buffer.specs.Calls.{reader_at};
-ghost use Rattle.grammar.specs.Reads.{run, ran};
+ghost use Rattle.grammar.specs.Reads.{run, taken};
 ghost use Rattle.tables.specs.Standard.{limit_of};
 ghost use Rattle.tables.specs.Differences.{table_of};
 ghost use Rattle.side.specs.Side.{cut_of, side_of};
@@ -53,7 +53,7 @@ pub extern "C" fn probe_side(
 ) -> usize
     requires { (table < 2) × (limit ≤ 32) }
     ensures { let side = side_with quant.new factor.new in
-        ran side (reader_at result) ≡ run (side_of mono table bound limit) stream.now (reader_at at) }
+        taken side (reader_at result) ≡ run (side_of mono table bound limit) stream.now (reader_at at) }
 {
     let reader = Reader { at: BitIndex(at) };
     let read = side::read_side(reader, stream, mono, table, bound, limit);
@@ -79,7 +79,7 @@ pub extern "C" fn probe_granule(
     requires { (part < 3) × (limit ≤ 32) × Below 18 quant.now × Below 33554433 factor.now }
     ensures { let side = side_with quant.now factor.now in
         let samples = samples_from side part bound limit sample.old in
-        ran sample.new (reader_at result) ≡ run samples stream.now (reader_at at) }
+        taken sample.new (reader_at result) ≡ run samples stream.now (reader_at at) }
 {
     let reader = Reader { at: BitIndex(at) };
     let next = codes::read_granule(reader, stream, quant, factor, part, bound, limit, sample);

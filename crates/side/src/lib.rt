@@ -2,7 +2,7 @@
 #![tactic(auto)]
 
 ghost use Rattle.std.specs.Prelude.{◌≡◌, ◌≤◌, ◌<◌};
-ghost use Rattle.grammar.specs.Reads.{run, ran};
+ghost use Rattle.grammar.specs.Reads.{run, taken};
 ghost use Rattle.tables.specs.Source.{step4};
 ghost use Rattle.ground.specs.Stores.{three};
 ghost use Rattle.side.specs.Bands.{channels_of, allocated_of};
@@ -29,7 +29,7 @@ fn read_allocation(
     quant: &mut [u8; 64],
 ) -> Reader
     requires { (quantisers.now ≡ step4) × (table < 2) × (sb < 32) × (place < 64) }
-    ensures { ran quant.new result ≡ run (allocation_of table sb place quant.old) s.now reader }
+    ensures { taken quant.new result ≡ run (allocation_of table sb place quant.old) s.now reader }
 {
     let f = reader.field(s, tables::allocation_bits(table, sb));
     let next = f.next;
@@ -48,7 +48,7 @@ fn allocation_band(
     quant: &mut [u8; 64],
 ) -> Reader
     requires { (quantisers.now ≡ step4) × (table < 2) × (sb < 32) }
-    ensures { ran quant.new result ≡ run (allocation_band_of table bound sb quant.old) s.now reader }
+    ensures { taken quant.new result ≡ run (allocation_band_of table bound sb quant.old) s.now reader }
 {
     let left = read_allocation(reader, s, quantisers, table, sb, sb, quant);
     if sb < bound {
@@ -67,7 +67,7 @@ fn allocations(
     quant: &mut [u8; 64],
 ) -> Reader
     requires { (table < 2) × (limit ≤ 32) }
-    ensures { ran quant.new result ≡ run (allocations_of table bound limit quant.old) s.now reader }
+    ensures { taken quant.new result ≡ run (allocations_of table bound limit quant.old) s.now reader }
 {
     let quantisers = tables::allocation_quantisers();
     let mut next = reader;
@@ -87,7 +87,7 @@ fn read_selector(
     selector: &mut [u8; 64],
 ) -> Reader
     requires { place < 64 }
-    ensures { ran selector.new result ≡ run (allocated_of quant.now selector_of place selector.old) s.now reader }
+    ensures { taken selector.new result ≡ run (allocated_of quant.now selector_of place selector.old) s.now reader }
 {
     if quant[place] == 0 {
         return reader;
@@ -107,7 +107,7 @@ fn selector_band(
     selector: &mut [u8; 64],
 ) -> Reader
     requires { sb < 32 }
-    ensures { ran selector.new result
+    ensures { taken selector.new result
         ≡ run (channels_of mono (allocated_of quant.now selector_of) sb selector.old) s.now reader }
 {
     let left = read_selector(reader, s, quant, sb, selector);
@@ -126,7 +126,7 @@ fn selectors(
     selector: &mut [u8; 64],
 ) -> Reader
     requires { limit ≤ 32 }
-    ensures { ran selector.new result ≡ run (selectors_of mono quant.now limit selector.old) s.now reader }
+    ensures { taken selector.new result ≡ run (selectors_of mono quant.now limit selector.old) s.now reader }
 {
     let mut next = reader;
     let mut sb = 0;
@@ -156,7 +156,7 @@ fn read_factors(
     factor: &mut [u32; 192],
 ) -> Reader
     requires { place < 64 }
-    ensures { ran factor.new result ≡ run (factors_of selector place factor.old) s.now reader }
+    ensures { taken factor.new result ≡ run (factors_of selector place factor.old) s.now reader }
 {
     let x = reader.field(s, 6);
     let one = x.next;
@@ -191,7 +191,7 @@ fn read_scale(
     factor: &mut [u32; 192],
 ) -> Reader
     requires { place < 64 }
-    ensures { ran factor.new result
+    ensures { taken factor.new result
         ≡ run (place_factors_of quant.now selector.now place factor.old) s.now reader }
 {
     if quant[place] == 0 {
@@ -210,7 +210,7 @@ fn scale_band(
     factor: &mut [u32; 192],
 ) -> Reader
     requires { sb < 32 }
-    ensures { ran factor.new result
+    ensures { taken factor.new result
         ≡ run (channels_of mono (place_factors_of quant.now selector.now) sb factor.old) s.now reader }
 {
     let left = read_scale(reader, s, quant, selector, sb, factor);
@@ -230,7 +230,7 @@ fn scale_factors(
     factor: &mut [u32; 192],
 ) -> Reader
     requires { limit ≤ 32 }
-    ensures { ran factor.new result
+    ensures { taken factor.new result
         ≡ run (scale_factors_of mono quant.now selector.now limit factor.old) s.now reader }
 {
     let mut next = reader;
@@ -259,7 +259,7 @@ pub fn read_side(
     limit: usize,
 ) -> SideInfo
     requires { (table < 2) × (limit ≤ 32) }
-    ensures { ran (side_with result.quant result.factor) result.reader ≡ run (side_of mono table bound limit) s.now reader }
+    ensures { taken (side_with result.quant result.factor) result.reader ≡ run (side_of mono table bound limit) s.now reader }
 {
     let mut quant = [0u8; 64];
     let mut selector = [0u8; 64];

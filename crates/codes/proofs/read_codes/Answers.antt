@@ -1,7 +1,7 @@
 -- `codes::read_codes` meets its contract.
 use mathlib.Core.Path.{ap, sym, ◌∙◌}
 use Rattle.buffer.specs.Calls.{field_of}
-use Rattle.grammar.specs.Reads.{ran}
+use Rattle.grammar.specs.Reads.{taken}
 use Rattle.grammar.specs.Run.{field_then, run_done}
 use Rattle.samples.specs.Sample.{digits_of}
 use Rattle.codes.specs.Frame.{codes_of}
@@ -18,7 +18,7 @@ returns-then-grouped c =
     let a = c.args in
     simp (sym c.grouped.ensures ∙ c.if-grouped.true)
     (field_then _ _ _ _ (c.field-f.ensures.is ∙ ap (field_of a.s.now a.reader) c.code_bits-bits.ensures)
-    (ap (λ d. ran d c.field-f.result.next) (c.digits-codes.ensures ∙ ap (λ l. digits_of l c.field-f.result.value) c.levels.ensures)
+    (ap (λ d. taken d c.field-f.result.next) (c.digits-codes.ensures ∙ ap (λ l. digits_of l c.field-f.result.value) c.levels.ensures)
     ∙ sym (run_done _ _ _)))
 
 pub returns : goal.returns

@@ -1,6 +1,6 @@
 -- `codes::read_samples` meets its contract: a code is one that its quantiser can have, so no step leaves the `i32`.
 use Rattle.std.proofs.Common.{ℕ, ◌<◌, ◌≡◌, List}
-use Rattle.grammar.specs.Reads.{ran, run}
+use Rattle.grammar.specs.Reads.{taken, run}
 use Rattle.buffer.specs.declared.Reader.{Reader}
 use Rattle.samples.specs.declared.Three.{Three}
 use Rattle.ground.specs.Magnitude.{read_back}
@@ -13,7 +13,7 @@ use Rattle.codes.proofs.Stored.{asks, stored}
 use Rattle.codes.proofs.read_samples.Goals as goal
 
 -- what the codes just read are at most
-small : (s : List ℕ) (q : ℕ) (r next : Reader) (codes : Three) → (0 < q) × (q < 18) → ran codes next ≡ run (codes_of q) s r → CodesUpTo (most_of q) codes
+small : (s : List ℕ) (q : ℕ) (r next : Reader) (codes : Three) → (0 < q) × (q < 18) → taken codes next ≡ run (codes_of q) s r → CodesUpTo (most_of q) codes
 small s q r next codes h e = learnt (CodesUpTo (most_of q)) (codes_of q) s r e (codes_small q h.0 h.1)
 
 pub sample-x-requires : goal.sample-x-requires

@@ -4,7 +4,7 @@ use Rattle.grammar.specs.Run.{run_done, and_then}
 use Rattle.side.specs.Bands.{pair_of}
 use Rattle.codes.specs.Frame.{sample_band_of}
 use mathlib.Core.Path.{ap}
-use Rattle.grammar.specs.Reads.{ran}
+use Rattle.grammar.specs.Reads.{taken}
 use Rattle.codes.proofs.sample_band.Goals as goal
 
 pub returns-then-sb-bound : goal.returns-then-sb-bound
@@ -18,4 +18,4 @@ unfolding sample_band_of pair_of
 returns c =
     and_then _ _ _ _ c.read_place-left.ensures
     (simp (le-ltb _ _ c.if-sb-bound.false, run_done)
-    (ap (λ xs. ran xs c.read_place-left.result) c.copy_band.ensures))
+    (ap (λ xs. taken xs c.read_place-left.result) c.copy_band.ensures))

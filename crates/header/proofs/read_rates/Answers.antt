@@ -19,8 +19,8 @@ returns-then-samplerate-eq3 c =
     (field_then _ _ _ _ c.field-samplerate.ensures.is
     (rw (eq-eqb _ _ c.if-samplerate-eq3.true) (sym (run_done _ _ _)))))
 
-pub overflow_sub-result : goal.overflow_sub-result
-overflow_sub-result c =
+pub overflow_sub-value : goal.overflow_sub-value
+overflow_sub-value c =
     let b = c.field-bitrate.result.value in
     let n = eqb-false b 0 (neither (eqb b 0) (eqb b 15) c.if-bitrate.false).0 in
     omega arith

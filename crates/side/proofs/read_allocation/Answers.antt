@@ -5,7 +5,7 @@ use lib.Pow.{pow_mono}
 use mathlib.Core.Path.{ap, sym, ◌∙◌}
 use lib.ListN.{set}
 use Rattle.buffer.specs.Calls.{field_of}
-use Rattle.grammar.specs.Reads.{ran}
+use Rattle.grammar.specs.Reads.{taken}
 use Rattle.grammar.specs.Run.{field_then, run_done}
 use Rattle.tables.specs.Source.{width_of}
 use Rattle.tables.specs.Laws.{width≤4}
@@ -24,4 +24,4 @@ unfolding allocation_of
 returns c =
     let a = c.args in
     field_then _ _ _ _ (c.field-f.ensures.is ∙ ap (field_of a.s.now a.reader) c.allocation_bits.ensures)
-    (ap (λ q. ran (set a.quant.now a.place q) c.field-f.result.next) c.quantiser.ensures ∙ sym (run_done _ _ _))
+    (ap (λ q. taken (set a.quant.now a.place q) c.field-f.result.next) c.quantiser.ensures ∙ sym (run_done _ _ _))
