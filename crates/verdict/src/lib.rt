@@ -2,28 +2,35 @@
 // question about the format asks.
 #![tactic(auto)]
 
-ghost use Rattle.std.specs.Prelude.{◌≡◌, ◌≤◌};
+ghost use Rattle.std.specs.Prelude.{◌≡◌, ◌≤◌, Err};
 ghost use Rattle.header.specs.Header.{most_data};
-ghost use Rattle.verdict.specs.Verdict.{attempt_of, headed_of, enough_of, at_once_of, ready_of, known_of};
+ghost use Rattle.verdict.specs.Verdict.{asked, attempt_of, headed_of, enough_of, at_once_of, ready_of, known_of};
 
-use buffer::{Holds, LONGEST_STREAM};
-use header::Header;
+use buffer::LONGEST_STREAM;
+use refusal::Refusal;
 use state::Audio;
 use synthesis::{MEMORY, OUTPUT};
 
-// Whether a header is there.
+// What a call answers, the state after it, and the bytes that were passed over as a header was sought: 0 where none was sought.
 #[derive(Clone, Copy)]
-pub enum Heading {
-    Known,
-    Refused(u32),
-}
-
-// The answer, the state after it, and the bytes that were passed over as a header was sought: 0 where none was sought.
-#[derive(Clone, Copy)]
-pub struct Asked {
-    pub answer: Heading,
+pub struct Answered<T> {
+    pub answer: T,
     pub state: Audio,
     pub skipped: usize,
+}
+
+// Whether a header is there.
+pub type Asked = Answered<Result<(), Refusal>>;
+
+// Refused before anything is read.
+fn refused(refusal: Refusal, a: Audio) -> Asked
+    ensures { result ≡ asked 0 (Err refusal) a }
+{
+    Answered {
+        answer: Err(refusal),
+        state: a,
+        skipped: 0,
+    }
 }
 
 // One header attempt: an accepted header is pending, a refused one moves the position and leaves the rest. 02, E2: from the aligned start
@@ -34,23 +41,21 @@ pub fn attempt(a: Audio, stream: &[u8]) -> Asked
     let begin = a.reader.at.byte_after();
     let t = header::decode_header(stream, a.reader, a.format);
     let skipped = t.sync.0 - begin.0;
-    let h = t.header;
     let reader = t.next;
-    let mut state = a;
-    state.reader = reader;
-    match h {
-        Header::Accepted(known, size) => {
-            state.format = known;
-            state.pending = size;
-            Asked {
-                answer: Heading::Known,
-                state,
-                skipped,
-            }
-        }
-        Header::Refused(number) => Asked {
-            answer: Heading::Refused(number),
-            state,
+    match t.header {
+        Ok(accepted) => Answered {
+            answer: Ok(()),
+            state: Audio {
+                reader,
+                format: accepted.format,
+                pending: accepted.size,
+                ..a
+            },
+            skipped,
+        },
+        Err(refusal) => Answered {
+            answer: Err(refusal),
+            state: Audio { reader, ..a },
             skipped,
         },
     }
@@ -63,8 +68,8 @@ fn headed(a: Audio, stream: &[u8]) -> Asked
     if a.pending == 0 {
         return attempt(a, stream);
     }
-    Asked {
-        answer: Heading::Known,
+    Answered {
+        answer: Ok(()),
         state: a,
         skipped: 0,
     }
@@ -75,68 +80,48 @@ fn enough(a: Audio, stream: &[u8], skipped: usize) -> Asked
     requires { a.pending ≤ most_data }
     ensures { result ≡ enough_of stream.now skipped a }
 {
-    let reader = a.reader;
-    let h = reader.has(stream, 8 * a.pending);
-    match h {
-        Holds::Yes => Asked {
-            answer: Heading::Known,
-            state: a,
-            skipped,
-        },
-        Holds::No => Asked {
-            answer: Heading::Refused(7),
-            state: a,
-            skipped,
-        },
-        Holds::Refused(number) => Asked {
-            answer: Heading::Refused(number),
-            state: a,
-            skipped,
-        },
+    let answer = match a.reader.has(stream, 8 * a.pending) {
+        Ok(true) => Ok(()),
+        Ok(false) => Err(Refusal::CutOff),
+        Err(refusal) => Err(refusal),
+    };
+    Answered {
+        answer,
+        state: a,
+        skipped,
     }
 }
 
-// 8, 9 or 10, before anything is read; or 0.
-fn refused_at_once(a: Audio, stream: &[u8], memory: usize, output: usize) -> u32
+// 8, 9 or 10, before anything is read; or none.
+fn refused_at_once(a: Audio, stream: &[u8], memory: usize, output: usize) -> Option<Refusal>
     ensures { result ≡ at_once_of stream.now memory output a }
 {
     if LONGEST_STREAM < stream.len() {
-        return 8;
+        return Some(Refusal::LongStream);
     }
     if memory < MEMORY {
-        return 9;
+        return Some(Refusal::LittleRoom);
     }
     if output < OUTPUT {
-        return 9;
+        return Some(Refusal::LittleRoom);
     }
     if state::in_range(a) {
-        return 0;
+        return None;
     }
-    10
+    Some(Refusal::BadState)
 }
 
 // All that is asked before a frame, with the lengths of the memory and the output.
 pub fn ready(a: Audio, stream: &[u8], memory: usize, output: usize) -> Asked
     ensures { result ≡ ready_of stream.now memory output a }
 {
-    let number = refused_at_once(a, stream, memory, output);
-    if number != 0 {
-        return Asked {
-            answer: Heading::Refused(number),
-            state: a,
-            skipped: 0,
-        };
+    if let Some(refusal) = refused_at_once(a, stream, memory, output) {
+        return refused(refusal, a);
     }
     let h = headed(a, stream);
-    let state = h.state;
-    let answer = h.answer;
-    match answer {
-        Heading::Known => enough(state, stream, h.skipped),
-        Heading::Refused(n) => Asked {
-            answer: Heading::Refused(n),
-            state,
-            skipped: h.skipped,
-        },
+    match h.answer {
+        Ok(()) => enough(h.state, stream, h.skipped),
+        Err(_) => h,
     }
 }
 
@@ -144,20 +129,14 @@ pub fn ready(a: Audio, stream: &[u8], memory: usize, output: usize) -> Asked
 pub fn known(a: Audio, stream: &[u8]) -> Asked
     ensures { result ≡ known_of stream.now a }
 {
-    let number = refused_at_once(a, stream, MEMORY, OUTPUT);
-    if number != 0 {
-        return Asked {
-            answer: Heading::Refused(number),
-            state: a,
-            skipped: 0,
-        };
+    if let Some(refusal) = refused_at_once(a, stream, MEMORY, OUTPUT) {
+        return refused(refusal, a);
     }
-    let f = a.format;
-    if f.samplerate == 3 {
+    if a.format.samplerate == 3 {
         return attempt(a, stream);
     }
-    Asked {
-        answer: Heading::Known,
+    Answered {
+        answer: Ok(()),
         state: a,
         skipped: 0,
     }

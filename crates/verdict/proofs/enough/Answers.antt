@@ -1,15 +1,18 @@
 use mathlib.Core.Path.{ap, sym, ◌∙◌}
+use Rattle.std.specs.Prelude.{Ok}
 use Rattle.verdict.specs.Verdict.{enough_of, holding}
 use Rattle.verdict.proofs.enough.Goals as goal
 
-pub returns-in-Yes : goal.returns-in-Yes
+pub returns-in-Ok-true : goal.returns-in-Ok-true
 unfolding enough_of
-returns-in-Yes c = ap (holding _ _) (sym c.in-Yes.is ∙ c.has-h.ensures)
+returns-in-Ok-true c =
+    ap (λ t. holding c.args.skipped c.args.a (Ok t)) (sym c.in-Ok-true.field-0-test) ∙ ap (holding c.args.skipped c.args.a) (sym c.in-Ok-true.is ∙ c.has.ensures)
 
-pub returns-in-No : goal.returns-in-No
+pub returns-in-Ok-false : goal.returns-in-Ok-false
 unfolding enough_of
-returns-in-No c = ap (holding _ _) (sym c.in-No.is ∙ c.has-h.ensures)
+returns-in-Ok-false c =
+    ap (λ t. holding c.args.skipped c.args.a (Ok t)) (sym c.in-Ok-false.field-0-test) ∙ ap (holding c.args.skipped c.args.a) (sym c.in-Ok-false.is ∙ c.has.ensures)
 
-pub returns-in-Refused : goal.returns-in-Refused
+pub returns-in-Err : goal.returns-in-Err
 unfolding enough_of
-returns-in-Refused c = ap (holding _ _) (sym c.in-Refused.is ∙ c.has-h.ensures)
+returns-in-Err c = ap (holding c.args.skipped c.args.a) (sym c.in-Err.is ∙ c.has.ensures)
