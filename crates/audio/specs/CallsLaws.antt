@@ -1,7 +1,8 @@
 -- What the calls' parts ask for, the calls put together from them, and the walk of an opening.
 -- Assumes nothing.
-use Rattle.std.specs.Prelude.{ℕ, ◌+◌, ◌*◌, ◌≤◌, ◌<◌, ◌≡◌, refl, true, false, List, ◌++◌, length, pos, Float, eqb, ltb}
+use Rattle.std.specs.Prelude.{ℕ, ◌+◌, ◌*◌, ◌≤◌, ◌<◌, ◌≡◌, refl, true, false, List, ◌++◌, length, pos, Float, eqb, ltb, Option, Some, None, Ok, Err}
 use Rattle.std.proofs.Common.{sym, ◌∙◌, subst, arith, ltb-true, ltb-false, ne_eqb}
+use Rattle.std.proofs.lemmas.Option.{none-some}
 use Rattle.std.proofs.Math.Path.{ap}
 use Rattle.std.proofs.Math.Bool.{cond}
 use Rattle.std.proofs.Math.ListN.{drop}
@@ -19,15 +20,12 @@ use Rattle.frame.specs.Frame.{Fit, codes_in, granules_at}
 use Rattle.state.specs.State.{fresh, in_range}
 use Rattle.state.specs.StateLaws.{Ranged}
 use Rattle.state.specs.declared.Audio.{Audio}
-use Rattle.verdict.specs.Verdict.{asked, attempt_of, unless_at_once, ready_of, known_of}
-use Rattle.verdict.specs.VerdictLaws.{Verdict, at_once, no_header, cut_off, whole, verdict_holds, heads_kept, verdict_leaves, by_asking, known_ranged, few_passed, refuses_at_once, asks_on}
-use Rattle.verdict.specs.declared.Heading.{Heading}
-use Rattle.verdict.specs.declared.Heading.TheVariants.{Known, Refused}
-use Rattle.verdict.specs.declared.Asked.{Asked}
-use Rattle.audio.specs.Calls.{blank, no_room_of, open_of, open_memory, answering, saying, format_of, after_of, framed_of, framed_memory, framed_output, decode_of, decode_memory, decode_output}
-use Rattle.audio.specs.declared.Answer.TheVariants.{Refused as AnswerRefused}
-use Rattle.audio.specs.declared.Decoded.{Decoded}
-use Rattle.audio.specs.declared.Reply.{Reply}
+use Rattle.verdict.specs.Verdict.{Heading, Asked, asked, attempt_of, unless_at_once, ready_of, known_of}
+use Rattle.verdict.specs.VerdictLaws.{Verdict, at_once, no_header, cut_off, whole, verdict_holds, heads_kept, verdict_leaves, by_asking, known_ranged, few_passed, refuses_at_once, asks_on, not_known}
+use Rattle.refusal.specs.declared.Refusal.{Refusal}
+use Rattle.refusal.specs.declared.Refusal.TheVariants.{LongStream, LittleRoom}
+use Rattle.audio.specs.Calls.{Reply, Decoded, clearing, blank, no_room_of, open_of, open_memory, answering, saying, format_of, after_of, framed_of, framed_memory, framed_output, decode_of, decode_memory, decode_output}
+use Rattle.audio.specs.declared.Answer.TheVariants.{Refused}
 
 -- ---- a header pending, and its data there
 
@@ -52,10 +50,10 @@ pub record Goes (s : List ℕ) (memory output : ℕ) (a : Audio) : Type 0 where
   pub memory_long : memory_length ≤ memory
   pub output_long : output_length ≤ output
 
-pub known_goes : {s : List ℕ} {m o : ℕ} {a : Audio} {x : Asked} → Verdict s m o a x → x.answer ≡ Known → Goes s m o x.state
-known_goes (at_once h) e = absurd (let z : ◌≡◌ {A = ℕ} 0 1 = cc in omega arith)
-known_goes (no_header c z e) k = absurd (let z : ◌≡◌ {A = ℕ} 0 1 = cc in omega arith)
-known_goes (cut_off c h l) e = absurd (let z : ◌≡◌ {A = ℕ} 0 1 = cc in omega arith)
+pub known_goes : {s : List ℕ} {m o : ℕ} {a : Audio} {x : Asked} → Verdict s m o a x → x.answer ≡ Ok tt → Goes s m o x.state
+known_goes (at_once h) e = absurd (not_known e)
+known_goes (no_header c z e) k = absurd (not_known k)
+known_goes (cut_off c h l) e = absurd (not_known e)
 known_goes (whole {b} c h l) e =
     let k = heads_kept c h in
     let r : Ranged b = k.ranged in
@@ -69,7 +67,7 @@ known_goes (whole {b} c h l) e =
       output_long = c.room.output_long;
     }
 
-pub goes : (s : List ℕ) (m o : ℕ) (a : Audio) (x : Asked) → x ≡ ready_of s m o a → x.answer ≡ Known → Goes s m o x.state
+pub goes : (s : List ℕ) (m o : ℕ) (a : Audio) (x : Asked) → x ≡ ready_of s m o a → x.answer ≡ Ok tt → Goes s m o x.state
 goes s m o a x e k = known_goes (subst (Verdict s m o a) (sym e) (verdict_holds s m o a)) k
 
 -- ---- the cleared memory
@@ -81,26 +79,26 @@ blank_length = length_table memory_length (λ _. fin false 0 (pos 0))
 -- ---- the walk of an opening
 
 -- the tests of an opening, for what holds of the number that they give
-by_room : (s : List ℕ) (memory : ℕ) (P : ℕ → Type 0) → (longest_stream < length s → P 8) → (length s ≤ longest_stream → memory < memory_length → P 9)
-    → (length s ≤ longest_stream → memory_length ≤ memory → P 0) → P (no_room_of s memory)
+by_room : (s : List ℕ) (memory : ℕ) (P : Option Refusal → Type 0) → (longest_stream < length s → P (Some LongStream)) → (length s ≤ longest_stream → memory < memory_length → P (Some LittleRoom))
+    → (length s ≤ longest_stream → memory_length ≤ memory → P None) → P (no_room_of s memory)
 unfolding no_room_of
 by_room s memory P eight nine none =
     by_test P (ltb longest_stream (length s)) _ _ (λ l. eight (ltb-true _ _ l))
     (λ l. by_test P (ltb memory memory_length) _ _ (λ m. nine (ltb-false _ _ l) (ltb-true _ _ m)) (λ m. none (ltb-false _ _ l) (ltb-false _ _ m)))
 
 pub by_opening : (c : Reading) (s : List ℕ) (memory : List Float) (Q : Asked → Type 0)
-    → (longest_stream < length s → Q (asked 0 (Refused 8) (fresh c)))
-    → (length s ≤ longest_stream → length memory < memory_length → Q (asked 0 (Refused 9) (fresh c)))
+    → (longest_stream < length s → Q (asked 0 (Err LongStream) (fresh c)))
+    → (length s ≤ longest_stream → length memory < memory_length → Q (asked 0 (Err LittleRoom) (fresh c)))
     → (length s ≤ longest_stream → memory_length ≤ length memory → Q (attempt_of s (fresh c)))
     → Q (open_of c s memory)
 unfolding open_of
 by_opening c s memory Q eight nine sought =
     by_room s (length memory) (λ n. Q (unless_at_once n (fresh c) (attempt_of s (fresh c)))) eight nine sought
 
--- 0 says that there is room
-pub long_enough : (s : List ℕ) (memory n : ℕ) → n ≡ no_room_of s memory → n ≡ 0 → memory_length ≤ memory
-long_enough s memory n e none =
-    by_room s memory (λ k. k ≡ 0 → memory_length ≤ memory) (λ _ z. absurd (omega arith)) (λ _ _ z. absurd (omega arith)) (λ _ k _. k) (sym e ∙ none)
+-- no refusal says that there is room
+pub long_enough : (s : List ℕ) (memory : ℕ) → None ≡ no_room_of s memory → memory_length ≤ memory
+long_enough s memory none =
+    by_room s memory (λ k. None ≡ k → memory_length ≤ memory) (λ _ z. absurd (none-some _ z)) (λ _ _ z. absurd (none-some _ z)) (λ _ k _. k) none
 
 -- ---- what holds of the state, and of the one that an attempt leaves, holds of the one that a question leaves
 
@@ -122,8 +120,8 @@ unfolding decode_of framed_of after_of
 decode_skipped s memory output a = by (ready_of s (length memory) (length output) a).answer
   where
     by : (h : Heading) → let r = ready_of s (length memory) (length output) a in (answering s r.skipped h r.state).skipped ≡ r.skipped
-    by Known = refl
-    by (Refused n) = refl
+    by (Ok tt) = refl
+    by (Err n) = refl
 
 pub decode_passes_few : (s : List ℕ) (memory output : List Float) (a : Audio) → (decode_of s memory output a).skipped ≤ length s
 decode_passes_few s memory output a =
@@ -132,21 +130,20 @@ decode_passes_few s memory output a =
 
 -- ---- the calls, put together from their parts: laws over plain variables
 
-module _ (reading : Reading) (s : List ℕ) (memory : List Float) (a : Audio) (is : a ≡ fresh reading) (n : ℕ) (room : n ≡ no_room_of s (length memory)) where
-  pub no_room : (n ≡ 0 → ⊥) → (asked 0 (Refused n) a ≡ open_of reading s memory) × (memory ≡ open_memory s memory)
+module _ (reading : Reading) (s : List ℕ) (memory : List Float) (a : Audio) (is : a ≡ fresh reading) where
+  pub no_room : (n : Refusal) → Some n ≡ no_room_of s (length memory) → (asked 0 (Err n) a ≡ open_of reading s memory) × (memory ≡ open_memory s memory)
   unfolding open_of open_memory
-  no_room some = (
-    ap (asked 0 (Refused n)) is ∙ refuses_at_once _ n room (fresh reading) (attempt_of s (fresh reading)) some,
-    ap (λ t. cond t (blank ++ drop memory_length memory) memory) (sym (ne_eqb n 0 some))
-        ∙ ap (λ k. cond (eqb k 0) (blank ++ drop memory_length memory) memory) room,
+  no_room n room = (
+    ap (asked 0 (Err n)) is ∙ refuses_at_once (fresh reading) (attempt_of s (fresh reading)) room,
+    ap (λ k. clearing k memory) room,
   )
 
-  pub opens : n ≡ 0 → (v : List Float) (x : Asked) → v ≡ blank → x ≡ attempt_of s a
+  pub opens : None ≡ no_room_of s (length memory) → (v : List Float) (x : Asked) → v ≡ blank → x ≡ attempt_of s a
       → (x ≡ open_of reading s memory) × (v ++ drop memory_length memory ≡ open_memory s memory)
   unfolding open_of open_memory
-  opens none v x e f = (
-    asks_on _ n room (fresh reading) (attempt_of s (fresh reading)) none x (f ∙ ap (attempt_of s) is),
-    ap (λ z. z ++ drop memory_length memory) e ∙ ap (λ k. cond (eqb k 0) (blank ++ drop memory_length memory) memory) (sym none ∙ room),
+  opens room v x e f = (
+    asks_on (fresh reading) (attempt_of s (fresh reading)) room x (f ∙ ap (attempt_of s) is),
+    ap (λ z. z ++ drop memory_length memory) e ∙ ap (λ k. clearing k memory) room,
   )
 
 -- where a frame's reading can end
@@ -169,7 +166,7 @@ module _ (s : List ℕ) (skipped : ℕ) (a : Audio) (end : Reader) (ring : ℕ) 
 
 module _ (s : List ℕ) (a : Audio) (h : Asked) (is : h ≡ known_of s a) where
   -- the tables have a row for the format that is told
-  pub told_fits : h.answer ≡ Known → (h.state.format.samplerate < 4) × (h.state.format.bitrate < 14)
+  pub told_fits : h.answer ≡ Ok tt → (h.state.format.samplerate < 4) × (h.state.format.bitrate < 14)
   told_fits k =
       let r = (known_ranged s a (sym (ap (λ (x : Asked). x.answer) is) ∙ k)).0 in
       rw is (omega arith, omega arith)
@@ -179,14 +176,14 @@ module _ (s : List ℕ) (a : Audio) (h : Asked) (is : h ≡ known_of s a) where
   tells t e = rw (← is, e)
 
 module _ (s : List ℕ) (memory output : List Float) (a : Audio) (r : Asked) (is : r ≡ ready_of s (length memory) (length output) a) where
-  pub decodes : r.answer ≡ Known → (x : Decoded) (m o : List Float) → x ≡ framed_of s r.skipped r.state → m ≡ framed_memory s r.state memory
+  pub decodes : r.answer ≡ Ok tt → (x : Decoded) (m o : List Float) → x ≡ framed_of s r.skipped r.state → m ≡ framed_memory s r.state memory
       → o ≡ framed_output s r.state memory output
       → (x ≡ decode_of s memory output a) × ((m ≡ decode_memory s memory output a) × (o ≡ decode_output s memory output a))
   unfolding decode_of decode_memory decode_output
   decodes k x m o e f g = (rw (← is, k) e, (rw (← is, k) f, rw (← is, k) g))
 
-  pub refuses : (n : ℕ) → r.answer ≡ Refused n
-      → (record { answer = AnswerRefused n; state = r.state; skipped = r.skipped } ≡ decode_of s memory output a)
+  pub refuses : (n : Refusal) → r.answer ≡ Err n
+      → (record { answer = Refused n; state = r.state; skipped = r.skipped } ≡ decode_of s memory output a)
       × ((memory ≡ decode_memory s memory output a) × (output ≡ decode_output s memory output a))
   unfolding decode_of decode_memory decode_output
   refuses n k = (rw (← is, k), (rw (← is, k), rw (← is, k)))

@@ -1,46 +1,45 @@
 -- The numbers of 01's table by name, and for each answer its number and its values.
-use Rattle.std.specs.Prelude.{ℕ, Bool, false, ◌||◌, eqb, pos, Float}
+use Rattle.std.specs.Prelude.{ℕ, Bool, false, ◌||◌, eqb, pos, Float, Ok, Err}
 use Rattle.std.specs.Float.{fin}
-use Rattle.verdict.specs.declared.Heading.{Heading}
-use Rattle.verdict.specs.declared.Heading.TheVariants.{Known, Refused}
-use Rattle.audio.specs.declared.Reply.{Reply}
-use Rattle.audio.specs.declared.Reply.TheVariants.{Format, Refused as ReplyRefused}
+use Rattle.buffer.specs.Numbers.{result_number}
+use Rattle.refusal.specs.Numbers.{number_of}
+use Rattle.verdict.specs.Verdict.{Heading}
+use Rattle.audio.specs.Calls.{Reply}
+use Rattle.audio.specs.declared.ClipFormat.{ClipFormat}
 use Rattle.audio.specs.declared.Answer.{Answer}
-use Rattle.audio.specs.declared.Answer.TheVariants.{Frame, Refused as AnswerRefused}
+use Rattle.audio.specs.declared.Answer.TheVariants.{Frame, Refused}
 
 abbrev pub heading_number : Heading → ℕ
-heading_number Known = 0
-heading_number (Refused n) = n
+heading_number = result_number
 
 abbrev pub reply_number : Reply → ℕ
-reply_number (Format rate kbps mode) = 0
-reply_number (ReplyRefused n) = n
+reply_number = result_number
 
 abbrev pub answer_number : Answer → ℕ
 answer_number (Frame time bits) = 0
-answer_number (AnswerRefused n) = n
+answer_number (Refused n) = number_of n
 
 -- samples a second, kilobits a second, and the mode; zeros beside a refusal
 abbrev pub reply_rate : Reply → ℕ
-reply_rate (Format rate kbps mode) = rate
-reply_rate (ReplyRefused n) = 0
+reply_rate (Ok x) = x.rate
+reply_rate (Err n) = 0
 
 abbrev pub reply_kbps : Reply → ℕ
-reply_kbps (Format rate kbps mode) = kbps
-reply_kbps (ReplyRefused n) = 0
+reply_kbps (Ok x) = x.kbps
+reply_kbps (Err n) = 0
 
 abbrev pub reply_mode : Reply → ℕ
-reply_mode (Format rate kbps mode) = mode
-reply_mode (ReplyRefused n) = 0
+reply_mode (Ok x) = x.mode
+reply_mode (Err n) = 0
 
 -- a frame's start in seconds, and the bits that it used; zeros beside a refusal
 abbrev pub answer_start : Answer → Float
 answer_start (Frame time bits) = time
-answer_start (AnswerRefused n) = fin false 0 (pos 0)
+answer_start (Refused n) = fin false 0 (pos 0)
 
 abbrev pub answer_bits : Answer → ℕ
 answer_bits (Frame time bits) = bits
-answer_bits (AnswerRefused n) = 0
+answer_bits (Refused n) = 0
 
 -- ---- the numbers, by name: firmware/tag.h has the same
 

@@ -1,49 +1,40 @@
 // The decoder's three public calls: audio.rs's `Audio`, its state by value, its memory and output lent. None refuses silently.
 #![tactic(auto)]
 
-ghost use Rattle.std.specs.Prelude.{◌≡◌, ◌≤◌, ◌<◌, length};
+ghost use Rattle.std.specs.Prelude.{◌≡◌, ◌≤◌, ◌<◌, length, Ok};
 ghost use Rattle.synthesis.specs.Slots.{memory_length, output_length};
-ghost use Rattle.verdict.specs.declared.Heading.TheVariants.{Known};
 ghost use Rattle.audio.specs.Calls.{aligned_of, after_of, framed_of, framed_memory, framed_output, decode_of, decode_memory, decode_output, no_room_of, open_of, open_memory, blank, saying, format_of};
 ghost use Rattle.audio.specs.CallsLaws.{Ready, Ended};
 ghost use Rattle.audio.specs.Numbers.{ends as endsBy};
 
-use buffer::{LONGEST_STREAM, Moved, Reader};
+use buffer::{LONGEST_STREAM, Reader};
 use header::Format;
 use readings::Reading;
+use refusal::Refusal;
 use state::Audio;
 use synthesis::MEMORY;
-use verdict::{Asked, Heading};
+use verdict::{Answered, Asked};
 
 // A format in the lister's units: samples a second, kilobits a second, and the mode (0 stereo, 1 joint stereo, 2 two channels,
-// 3 mono). Or a number.
+// 3 mono).
 #[derive(Clone, Copy)]
-pub enum Reply {
-    Format { rate: u32, kbps: u32, mode: u32 },
-    Refused(u32),
+pub struct ClipFormat {
+    pub rate: u32,
+    pub kbps: u32,
+    pub mode: u32,
 }
 
 // 02, E2: `skipped` is how many bytes the call passed over as it sought a header, 0 where it sought none.
-#[derive(Clone, Copy)]
-pub struct Replied {
-    pub answer: Reply,
-    pub state: Audio,
-    pub skipped: usize,
-}
+pub type Replied = Answered<Result<ClipFormat, Refusal>>;
 
-// A frame with its start time in seconds and the bits it used, or a number.
+// A frame with its start time in seconds and the bits it used, or a refusal with its number.
 #[derive(Clone, Copy)]
 pub enum Answer {
     Frame { time: f64, bits: usize },
-    Refused(u32),
+    Refused(Refusal),
 }
 
-#[derive(Clone, Copy)]
-pub struct Decoded {
-    pub answer: Answer,
-    pub state: Audio,
-    pub skipped: usize,
-}
+pub type Decoded = Answered<Answer>;
 
 // 1 and 7 end a stream. After any other number a later call may give a frame.
 pub fn ends(number: u32) -> bool
@@ -55,10 +46,9 @@ pub fn ends(number: u32) -> bool
 fn aligned(stream: &[u8], reader: Reader) -> Reader
     ensures { result ≡ aligned_of stream.now reader }
 {
-    let m = reader.align(stream);
-    match m {
-        Moved::To(next) => next,
-        Moved::Refused(_) => reader,
+    match reader.align(stream) {
+        Ok(next) => next,
+        Err(_) => reader,
     }
 }
 
@@ -67,25 +57,21 @@ fn after(a: Audio, stream: &[u8], end: Reader, ring: usize, skipped: usize) -> D
     requires { Ended stream.now a end }
     ensures { result ≡ after_of stream.now skipped a end ring }
 {
-    let old = a.format;
-    let begin = a.reader;
-    let from = begin.at;
-    let to = end.at;
-    let bits = to.0 - from.0;
+    let bits = end.at.0 - a.reader.at.0;
     let reader = aligned(stream, end);
-    let format = frame::cut_format(old);
+    let format = frame::cut_format(a.format);
     let frames = a.frames + 1;
-    let time = clock::start_time(frames, old.samplerate);
-    let mut state = a;
-    state.reader = reader;
-    state.format = format;
-    state.frames = frames;
-    state.pending = 0;
-    state.ring = ring;
-    state.time = time;
-    Decoded {
+    let time = clock::start_time(frames, a.format.samplerate);
+    Answered {
         answer: Answer::Frame { time: a.time, bits },
-        state,
+        state: Audio {
+            reader,
+            format,
+            frames,
+            pending: 0,
+            ring,
+            time,
+        },
         skipped,
     }
 }
@@ -103,11 +89,8 @@ fn framed(
     ensures memory_after { memory.new ≡ framed_memory stream.now a memory.old }
     ensures output_after { output.new ≡ framed_output stream.now a memory.old output.old }
 {
-    let format = a.format;
-    let begin = a.reader;
-    let played = frame::decode_frame(stream, begin, format, a.ring, memory, output);
-    let end = played.end;
-    after(a, stream, end, played.ring, skipped)
+    let played = frame::decode_frame(stream, a.reader, a.format, a.ring, memory, output);
+    after(a, stream, played.end, played.ring, skipped)
 }
 
 fn clear(memory: &mut [f32])
@@ -121,17 +104,17 @@ fn clear(memory: &mut [f32])
     }
 }
 
-// 8 or 9 of an opening, which has no output; or 0.
-fn no_room(stream: &[u8], memory: usize) -> u32
+// 8 or 9 of an opening, which has no output; or none.
+fn no_room(stream: &[u8], memory: usize) -> Option<Refusal>
     ensures { result ≡ no_room_of stream.now memory }
 {
     if LONGEST_STREAM < stream.len() {
-        return 8;
+        return Some(Refusal::LongStream);
     }
     if memory < MEMORY {
-        return 9;
+        return Some(Refusal::LittleRoom);
     }
-    0
+    None
 }
 
 // A decoder at the stream's start: its memory cleared, and the first header tried.
@@ -140,10 +123,9 @@ pub fn new(stream: &[u8], memory: &mut [f32], reading: Reading) -> Asked
     ensures memory_after { memory.new ≡ open_memory stream.now memory.old }
 {
     let state = state::fresh_state(reading);
-    let number = no_room(stream, memory.len());
-    if number != 0 {
-        return Asked {
-            answer: Heading::Refused(number),
+    if let Some(refusal) = no_room(stream, memory.len()) {
+        return Answered {
+            answer: Err(refusal),
             state,
             skipped: 0,
         };
@@ -152,19 +134,17 @@ pub fn new(stream: &[u8], memory: &mut [f32], reading: Reading) -> Asked
     verdict::attempt(state, stream)
 }
 
-// A format that is known, in its units; or the number.
-fn say(h: Heading, f: Format) -> Reply
-    requires { h ≡ Known → (f.samplerate < 4) × (f.bitrate < 14) }
-    ensures { result ≡ saying h f }
+// A format that is known, in its units; or the refusal.
+fn say(known: Result<(), Refusal>, f: Format) -> Result<ClipFormat, Refusal>
+    requires { known ≡ Ok tt → (f.samplerate < 4) × (f.bitrate < 14) }
+    ensures { result ≡ saying known f }
 {
-    match h {
-        Heading::Known => Reply::Format {
-            rate: tables::rate(f.samplerate),
-            kbps: tables::kbps(f.bitrate),
-            mode: f.mode,
-        },
-        Heading::Refused(number) => Reply::Refused(number),
-    }
+    known?;
+    Ok(ClipFormat {
+        rate: tables::rate(f.samplerate),
+        kbps: tables::kbps(f.bitrate),
+        mode: f.mode,
+    })
 }
 
 // The stream's format: the one that is known, or else the next attempt's. A header that the attempt accepts is pending, so `decode`
@@ -173,30 +153,26 @@ pub fn format(a: Audio, stream: &[u8]) -> Replied
     ensures { result ≡ format_of stream.now a }
 {
     let h = verdict::known(a, stream);
-    let heading = h.answer;
     let state = h.state;
-    let format = state.format;
-    Replied {
-        answer: say(heading, format),
+    Answered {
+        answer: say(h.answer, state.format),
         state,
         skipped: h.skipped,
     }
 }
 
-// The next frame, or a number.
+// The next frame, or a refusal.
 pub fn decode(a: Audio, stream: &[u8], memory: &mut [f32], output: &mut [f32]) -> Decoded
     ensures value { result ≡ decode_of stream.now memory.old output.old a }
     ensures memory_after { memory.new ≡ decode_memory stream.now memory.old output.old a }
     ensures output_after { output.new ≡ decode_output stream.now memory.old output.old a }
 {
     let r = verdict::ready(a, stream, memory.len(), output.len());
-    let state = r.state;
-    let answer = r.answer;
-    match answer {
-        Heading::Known => framed(state, stream, memory, output, r.skipped),
-        Heading::Refused(number) => Decoded {
-            answer: Answer::Refused(number),
-            state,
+    match r.answer {
+        Ok(()) => framed(r.state, stream, memory, output, r.skipped),
+        Err(refusal) => Answered {
+            answer: Answer::Refused(refusal),
+            state: r.state,
             skipped: r.skipped,
         },
     }

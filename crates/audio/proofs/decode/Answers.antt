@@ -3,16 +3,16 @@ use Rattle.audio.proofs.decode.Goals as goal
 
 pub framed-requires : goal.framed-requires
 framed-requires c =
-    let g = goes _ _ _ _ _ c.ready-r.ensures c.in-Known.is in
+    let g = goes _ _ _ _ _ c.ready-r.ensures c.in-Ok.is in
     (g.ready, g.memory_long, g.output_long)
 
-pub returns-in-Known : goal.returns-in-Known
-returns-in-Known c =
+pub returns-in-Ok : goal.returns-in-Ok
+returns-in-Ok c =
     let e = c.framed.ensures in
-    let whole = decodes _ _ _ _ _ c.ready-r.ensures c.in-Known.is _ _ _ e.value e.memory_after e.output_after in
+    let whole = decodes _ _ _ _ _ c.ready-r.ensures c.in-Ok.is _ _ _ e.value e.memory_after e.output_after in
     record { value = whole.0; memory_after = whole.1.0; output_after = whole.1.1 }
 
-pub returns-in-Refused : goal.returns-in-Refused
-returns-in-Refused c =
-    let whole = refuses _ _ _ _ _ c.ready-r.ensures _ c.in-Refused.is in
+pub returns-in-Err : goal.returns-in-Err
+returns-in-Err c =
+    let whole = refuses _ _ _ _ _ c.ready-r.ensures _ c.in-Err.is in
     record { value = whole.0; memory_after = whole.1.0; output_after = whole.1.1 }
