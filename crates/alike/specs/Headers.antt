@@ -3,7 +3,7 @@
 -- mode, and else refuses it with 13. And a header that the port accepts, all of its bits being there, is one of the standard's. Either way
 -- it stands at the byte that the attempt tells, so up to there the bytes were passed over (02, E2).
 -- Demand 2: "Header .. proved against a definition written from ISO/IEC 11172-3 Layer II". Assumes nothing.
-use Rattle.std.specs.Prelude.{ℕ, ◌+◌, ◌-◌, ◌*◌, ◌/◌, ◌%◌, ◌≤◌, ◌<◌, ◌≡◌, refl, true, false, List, [], ◌∷◌, T, leb, length, get_or}
+use Rattle.std.specs.Prelude.{ℕ, ◌+◌, ◌-◌, ◌*◌, ◌/◌, ◌%◌, ◌≤◌, ◌<◌, ◌≡◌, refl, true, false, List, [], ◌∷◌, T, leb, length, get_or, Result, Ok, Err}
 use Rattle.std.proofs.Common.{sym, ap, subst, ◌∙◌, arith, leb→le, eq-eqb}
 use Rattle.std.proofs.Math.Decide.{ℕ_discrete}
 use Rattle.ground.specs.First.{first_within, first_before, first_is}
@@ -19,16 +19,18 @@ use Rattle.buffer.specs.declared.BytePos.{BytePos}
 use Rattle.buffer.specs.declared.Reader.{Reader}
 use Rattle.buffer.specs.declared.Taken.{Taken}
 use Rattle.readings.specs.Readings.{strict}
-use Rattle.header.specs.Header.{refusal, header_of}
+use Rattle.header.specs.Header.{refusal, header_of, accepted_header}
 use Rattle.header.specs.Accepted.{SameFormat}
 use Rattle.header.specs.Attempts.{eleven_bits, stop, Synced, in_place, searched, samplerate, flags, checked, after_check, format_by, data_size as size_by, BitrateGiven, pair_barred, Attempts, one, two, three, four, five, thirteen, six, zero as accepted, attempt_table}
 use Rattle.header.specs.Passed.{Met, sync_is_ff}
 use Rattle.header.specs.declared.Attempt.{Attempt}
 use Rattle.header.specs.declared.Format.{Format}
-use Rattle.header.specs.declared.Header.TheVariants.{Accepted}
 use Rattle.standard.specs.Header.{HeaderFields, bitrate_index, sampling_frequency, mode_bits, permitted, data_size, data_bit}
 use Rattle.alike.specs.Fields.{Says, after_sync, bits_at, field, version_is, layer_is, bitrate_is, samplerate_is, mode_is, says, next_is, eleven_ones, version_3, twelve_ones}
 use Rattle.alike.specs.Pairs.{Permits, permitted_is_taken, taken_is_permitted, not_permitted_is_refused}
+use Rattle.refusal.specs.declared.Refusal.{Refusal}
+use Rattle.header.specs.declared.Accepted.{Accepted}
+use Rattle.refusal.specs.declared.Refusal.TheVariants.{BarredRate}
 
 -- ---- a header of the standard is accepted
 
@@ -51,7 +53,7 @@ pub record AcceptedAt (s : List ℕ) (r : Reader) (byte : ℕ) (known : Format) 
   pub format : Format
   pub reading : format.reading ≡ known.reading
   pub says : Says s byte format (data_size s byte)
-  pub is : header_of s r known ≡ record { header = Accepted format (data_size s byte); sync = byte_at byte; next = reader_at (data_bit s byte) }
+  pub is : header_of s r known ≡ record { header = Ok (accepted_header format (data_size s byte)); sync = byte_at byte; next = reader_at (data_bit s byte) }
 
 module _ (s : List ℕ) (bytes : (j : ℕ) → get_or s j 0 < 256) (r : Reader) (byte : ℕ) (reaches : Reaches s r byte) (short : length s ≤ longest_stream)
     (room : 8 * byte + 48 ≤ 8 * length s) (fields : HeaderFields s byte) where
@@ -146,11 +148,11 @@ module _ (s : List ℕ) (bytes : (j : ℕ) → get_or s j 0 < 256) (r : Reader) 
 
   -- a pair that the standard does not have: refused behind the mode, 26 bits from the FF
   pub not_permitted_is_13 : (known : Format) → strict known.reading ≡ true → permitted (mode_bits s byte) (bitrate_index s byte) ≡ false
-      → header_of s r known ≡ refusal 13 (byte_at byte) (reader_at (byte * 8 + 26))
+      → header_of s r known ≡ refusal BarredRate (byte_at byte) (reader_at (byte * 8 + 26))
   not_permitted_is_13 known chosen none =
       let pair = not_permitted_is_refused s byte short thirty fields.bitrate_least fields.bitrate_most known.reading chosen none in
       sym ((attempt_table s r short near known).only (thirteen enough found given rate pair)).0
-      ∙ ap (λ (z : Taken ℕ). refusal 13 (byte_at byte) z.next) (mode_is s byte short thirty)
+      ∙ ap (λ (z : Taken ℕ). refusal BarredRate (byte_at byte) z.next) (mode_is s byte short thirty)
 
   pub the_standards_header : (known : Format) → Permits known.reading s byte → Follows known s byte → AcceptedAt s r byte known
   the_standards_header known permits follows =
@@ -167,8 +169,8 @@ module _ (s : List ℕ) (bytes : (j : ℕ) → get_or s j 0 < 256) (r : Reader) 
         says = subst (Says s byte f) w.size w;
         is =
             sym row.0
-            ∙ ap {B = Attempt} (λ (n : ℕ). record { header = Accepted f n; sync = byte_at byte; next = after_check s (after_sync byte) }) w.size
-            ∙ ap {B = Attempt} (λ (next : Reader). record { header = Accepted f (data_size s byte); sync = byte_at byte; next = next })
+            ∙ ap {B = Attempt} (λ (n : ℕ). record { header = Ok (accepted_header f n); sync = byte_at byte; next = after_check s (after_sync byte) }) w.size
+            ∙ ap {B = Attempt} (λ (next : Reader). record { header = Ok (accepted_header f (data_size s byte)); sync = byte_at byte; next = next })
             (next_is s byte short thirty room);
       }
 
@@ -208,6 +210,15 @@ module _ (s : List ℕ) (short : length s ≤ longest_stream) where
       (λ _. omega arith) in
       let e : (flags s after).next.at.0 ≡ byte * 8 + 11 + 21 = all_there (2 ∷ 2 ∷ 1 ∷ 4 ∷ 2 ∷ 1 ∷ 1 ∷ 2 ∷ 2 ∷ 4 ∷ []) tt after (omega arith) in
       omega arith
+
+-- the parts of an accepted header; else the one that is given
+abbrev format_in : Format → Result Accepted Refusal → Format
+format_in f (Ok x) = x.format
+format_in f (Err n) = f
+
+abbrev size_in : ℕ → Result Accepted Refusal → ℕ
+size_in size (Ok x) = x.size
+size_in size (Err n) = size
 
 -- a header of the standard, where its 32 bits are there; the audio data begin where the standard says, where 16 bits more are there;
 -- and all of these are, where 16 bits are left when the header is read
@@ -267,7 +278,7 @@ module _ (s : List ℕ) (r : Reader) (short : length s ≤ longest_stream) (know
       })
       u f k
 
-  by_row : {n : ℕ} {x : Attempt} → r.at.0 ≤ farthest_bit → Attempts s r known n x → {f : Format} {size : ℕ} → x.header ≡ Accepted f size
+  by_row : {n : ℕ} {x : Attempt} → r.at.0 ≤ farthest_bit → Attempts s r known n x → {f : Format} {size : ℕ} → x.header ≡ Ok (accepted_header f size)
       → StandardsHeader s r f size x.sync.0 x.next
   by_row near (one _) e = absurd (let z : ◌≡◌ {A = ℕ} 0 1 = cc in omega arith)
   by_row near (two _ _ _) e = absurd (let z : ◌≡◌ {A = ℕ} 0 1 = cc in omega arith)
@@ -277,12 +288,12 @@ module _ (s : List ℕ) (r : Reader) (short : length s ≤ longest_stream) (know
   by_row near (thirteen _ _ _ _ _) e = absurd (let z : ◌≡◌ {A = ℕ} 0 1 = cc in omega arith)
   by_row near (six _ _ _ _ _ _ _) e = absurd (let z : ◌≡◌ {A = ℕ} 0 1 = cc in omega arith)
   by_row near (accepted {b = b} {q = after} room y u g k same) {f} {size} e =
-      let same_format : format_by s after known.reading ≡ f = cc in
-      let same_size : size_by s after ≡ size = cc in
+      let same_format : format_by s after known.reading ≡ f = ap (format_in f) e in
+      let same_size : size_by s after ≡ size = ap (size_in size) e in
       subst (λ (h : Format). StandardsHeader s r h size b.0 (after_check s after)) same_format
       (subst (λ (n : ℕ). StandardsHeader s r (format_by s after known.reading) n b.0 (after_check s after)) same_size
       (accepted_at u g k (sync_is_ff s r short near room y)))
 
-  pub an_accepted_header : r.at.0 ≤ farthest_bit → {f : Format} {size : ℕ} → (header_of s r known).header ≡ Accepted f size
+  pub an_accepted_header : r.at.0 ≤ farthest_bit → {f : Format} {size : ℕ} → (header_of s r known).header ≡ Ok (accepted_header f size)
       → StandardsHeader s r f size (header_of s r known).sync.0 (header_of s r known).next
   an_accepted_header near = by_row near (attempt_table s r short near known).holds

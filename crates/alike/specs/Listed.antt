@@ -1,6 +1,6 @@
 -- Where the source leaves ISO/IEC 11172-3, one small theorem each, by the numbers and the smallest streams of docs/DIFFERENCES.md: in a
 -- frame's fields and codes (S), and in what is taken for a frame (F). Assumes nothing.
-use Rattle.std.specs.Prelude.{ℕ, ◌+◌, ◌*◌, ◌/◌, ◌%◌, ◌<◌, ◌≡◌, refl, true, false, cond, List, [], ◌∷◌, ◌++◌, T, eqb, ℤ, pos, negsuc, get_or, replicate}
+use Rattle.std.specs.Prelude.{ℕ, ◌+◌, ◌*◌, ◌/◌, ◌%◌, ◌<◌, ◌≡◌, refl, true, false, cond, List, [], ◌∷◌, ◌++◌, T, eqb, ℤ, pos, negsuc, get_or, replicate, Err, Ok}
 use Rattle.std.proofs.Common.{sym, mod-eq_of_lt, div-lt_iff_lt-mul, ltb→lt}
 use Rattle.std.specs.Float.{fin, binary32}
 use Rattle.std.specs.Float.Ieee.{of_int, add, mul, div, lt}
@@ -12,12 +12,11 @@ use Rattle.grammar.specs.Reads.{Reads, ◌>>=◌, run, called}
 use Rattle.tables.specs.Standard.{B2c, rows_of, row_of, steps_of, sblimit, serves, chosen, limit_of, classes, quantisation_of, levels_of, code_bits_of, grouped_of}
 use Rattle.tables.specs.Source.{source_row_of, width_of, quantiser_of}
 use Rattle.tables.specs.Differences.{taken, table_of}
-use Rattle.header.specs.Header.{header_of, header_number, start_of, sync_of, fields_of, ident_of, rates_of, rest_of, mode_of, bound_of, check_of, size_of}
+use Rattle.header.specs.Header.{header_of, header_number, start_of, sync_of, fields_of, ident_of, rates_of, rest_of, mode_of, bound_of, check_of, size_of, accepted_header}
 use Rattle.readings.specs.Readings.{plain}
 use Rattle.header.specs.Rows.{unknown}
 use Rattle.header.specs.declared.Attempt.{Attempt}
 use Rattle.header.specs.declared.Format.{Format}
-use Rattle.header.specs.declared.Header.TheVariants.{Accepted, Refused}
 use Rattle.samples.specs.Sample.{scale_of, adj_of, scaled_by, sample_of, factor_of, digits_of}
 use Rattle.side.specs.Bands.{bands, pair_of, channels_of}
 use Rattle.side.specs.Side.{allocation_of, allocation_band_of, selector_of, factors_of, side_of}
@@ -31,6 +30,7 @@ use Rattle.standard.specs.Values.{table_b4, requantisation_of, requantised}
 use Rattle.alike.specs.Made.{placed}
 use Rattle.alike.specs.JointStereo.{own_band, own_made, own_made_from, made_by_own_factors, samples_by_own_factors}
 use Rattle.alike.specs.Fields.{header_fields}
+use Rattle.refusal.specs.declared.Refusal.TheVariants.{OtherLayer, NoBitRate, OtherFormat}
 
 -- the streams below begin FF FD 10 C0: mono, 32 kbit/s, 44.1 kHz, a frame of 104 bytes, the audio data from bit 32 on
 abbrev mono32 : List ℕ → List ℕ
@@ -133,13 +133,13 @@ first s = header_of s (reader_at 0) unknown
 
 -- F1: whatever the check word says, the header is accepted
 pub check_word_unread : (a b : ℕ)
-    → first (0xFF ∷ 0xFC ∷ 0x10 ∷ 0xC0 ∷ a ∷ b ∷ replicate 98 0) ≡ record { header = Accepted mono_format 98; sync = byte_at 0; next = reader_at 48 }
+    → first (0xFF ∷ 0xFC ∷ 0x10 ∷ 0xC0 ∷ a ∷ b ∷ replicate 98 0) ≡ record { header = Ok (accepted_header mono_format 98); sync = byte_at 0; next = reader_at 48 }
 unfolding header_of start_of sync_of has_of skip_bytes_of field_of read_of bits_value bit_at first_from run ◌>>=◌ fields_of ident_of rates_of rest_of mode_of bound_of check_of
     size_of
 check_word_unread a b = refl
 
 -- F2: free format is refused with 4; ID 0, which ISO/IEC 11172-3 reserves, with 3
-pub free_format : ((first (0xFF ∷ 0xFD ∷ 0x00 ∷ 0xC0 ∷ 0 ∷ 0 ∷ [])).header ≡ Refused 4) × ((first (0xFF ∷ 0xF5 ∷ 0x10 ∷ 0xC0 ∷ 0 ∷ 0 ∷ [])).header ≡ Refused 3)
+pub free_format : ((first (0xFF ∷ 0xFD ∷ 0x00 ∷ 0xC0 ∷ 0 ∷ 0 ∷ [])).header ≡ Err NoBitRate) × ((first (0xFF ∷ 0xF5 ∷ 0x10 ∷ 0xC0 ∷ 0 ∷ 0 ∷ [])).header ≡ Err OtherLayer)
 unfolding header_of start_of sync_of has_of skip_bytes_of field_of read_of bits_value bit_at first_from run ◌>>=◌ fields_of ident_of rates_of
 free_format = (refl, refl)
 
@@ -159,8 +159,8 @@ stereo_then_joint = 0xFF ∷ 0xFD ∷ 0x10 ∷ 0x00 ∷ replicate 100 0 ++ (0xFF
 abbrev stereo : Format
 stereo = record { reading = plain; samplerate = 0; bitrate = 0; mode = 0; bound = 32 }
 
-pub first_holds_for_good : ((first stereo_then_joint).header ≡ Accepted stereo 100) × HeaderFields stereo_then_joint 104
-    × ((header_of stereo_then_joint (reader_at 832) stereo).header ≡ Refused 6)
+pub first_holds_for_good : ((first stereo_then_joint).header ≡ Ok (accepted_header stereo 100)) × HeaderFields stereo_then_joint 104
+    × ((header_of stereo_then_joint (reader_at 832) stereo).header ≡ Err OtherFormat)
 unfolding header_of start_of sync_of has_of skip_bytes_of field_of read_of bits_value bit_at first_from run ◌>>=◌ fields_of ident_of rates_of rest_of mode_of bound_of check_of
     size_of
 first_holds_for_good = (refl, header_fields stereo_then_joint 104 tt, refl)
@@ -170,7 +170,7 @@ abbrev ancillary : List ℕ
 ancillary = mono32 (0 ∷ 0 ∷ 0 ∷ 0 ∷ mono32 (replicate 100 0))
 
 pub inside_the_frame : ((run mono_frame ancillary (reader_at 32)).next ≡ reader_at 58) × (frame_size ancillary 0 ≡ 104)
-    × (header_of ancillary (reader_at 58) mono_format ≡ record { header = Accepted mono_format 100; sync = byte_at 8; next = reader_at 96 })
+    × (header_of ancillary (reader_at 58) mono_format ≡ record { header = Ok (accepted_header mono_format 100); sync = byte_at 8; next = reader_at 96 })
 unfolding header_of start_of sync_of has_of skip_bytes_of field_of read_of bits_value bit_at first_from run ◌>>=◌ fields_of ident_of rates_of rest_of mode_of bound_of check_of
     size_of frame_of side_of bands pair_of allocation_of allocation_band_of channels_of selector_of factors_of place_of copied sample_band_of granule_of granules_of
     table_of limit_of chosen serves sblimit rows_of source_row_of width_of quantiser_of
@@ -196,7 +196,7 @@ almost_a_sync = tt
 
 -- .. and a header of the standard at the second of two FF is lost: the next attempt starts behind its first byte
 pub lost_header : HeaderFields (0xFF ∷ mono32 (replicate 100 0)) 1
-    × (first (0xFF ∷ mono32 (replicate 100 0)) ≡ record { header = Refused 3; sync = byte_at 0; next = reader_at 16 })
+    × (first (0xFF ∷ mono32 (replicate 100 0)) ≡ record { header = Err OtherLayer; sync = byte_at 0; next = reader_at 16 })
 unfolding header_of start_of sync_of has_of skip_bytes_of field_of read_of bits_value bit_at first_from run ◌>>=◌ fields_of ident_of rates_of
 lost_header = (header_fields (0xFF ∷ mono32 (replicate 100 0)) 1 tt, refl)
 
@@ -204,7 +204,7 @@ lost_header = (header_fields (0xFF ∷ mono32 (replicate 100 0)) 1 tt, refl)
 abbrev stream_cut_short : List ℕ
 stream_cut_short = mono32 (replicate 99 0)
 
-pub cut_short : (first stream_cut_short ≡ record { header = Accepted mono_format 100; sync = byte_at 0; next = reader_at 32 }) × (left stream_cut_short (reader_at 32) ≡ 792)
+pub cut_short : (first stream_cut_short ≡ record { header = Ok (accepted_header mono_format 100); sync = byte_at 0; next = reader_at 32 }) × (left stream_cut_short (reader_at 32) ≡ 792)
     × (called mono_frame stream_cut_short (reader_at 32) ≡ 26)
 unfolding header_of start_of sync_of has_of skip_bytes_of field_of read_of bits_value bit_at first_from run called ◌>>=◌ fields_of ident_of rates_of rest_of mode_of bound_of
     check_of size_of frame_of side_of bands pair_of allocation_of allocation_band_of channels_of selector_of factors_of place_of copied sample_band_of granule_of
@@ -219,14 +219,14 @@ false_start = 0xFF ∷ 0xFD ∷ 0x20 ∷ 0xC0 ∷ mono32 (replicate 100 0 ++ mon
 abbrev mono48 : Format
 mono48 = record { reading = plain; samplerate = 0; bitrate = 1; mode = 3; bound = 0 }
 
-pub unconfirmed : ((first false_start).header ≡ Accepted mono48 152) × (bits_value false_start (8 * 156) 12 ≡ 0) × HeaderFields false_start 108
-    × ((header_of false_start (reader_at 864) mono48).header ≡ Refused 6)
+pub unconfirmed : ((first false_start).header ≡ Ok (accepted_header mono48 152)) × (bits_value false_start (8 * 156) 12 ≡ 0) × HeaderFields false_start 108
+    × ((header_of false_start (reader_at 864) mono48).header ≡ Err OtherFormat)
 unfolding header_of start_of sync_of has_of skip_bytes_of field_of read_of bits_value bit_at first_from run ◌>>=◌ fields_of ident_of rates_of rest_of mode_of bound_of check_of
     size_of
 unconfirmed = (refl, refl, header_fields false_start 108 tt, refl)
 
 -- F10: a header cut behind its third byte is accepted: what is missing reads as 0, which is stereo
-pub cut_header : first (0 ∷ 0 ∷ 0 ∷ 0xFF ∷ 0xFD ∷ 0x10 ∷ []) ≡ record { header = Accepted stereo 100; sync = byte_at 3; next = reader_at 48 }
+pub cut_header : first (0 ∷ 0 ∷ 0 ∷ 0xFF ∷ 0xFD ∷ 0x10 ∷ []) ≡ record { header = Ok (accepted_header stereo 100); sync = byte_at 3; next = reader_at 48 }
 unfolding header_of start_of sync_of has_of skip_bytes_of field_of read_of bits_value bit_at first_from run ◌>>=◌ fields_of ident_of rates_of rest_of mode_of bound_of check_of
     size_of
 cut_header = refl

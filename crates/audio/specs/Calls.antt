@@ -62,15 +62,15 @@ framed_output s a memory output = frame_output (granules_at s a.reader a.format)
 -- ---- decode: a frame, or a number, which leaves memory and output as they were
 
 abbrev pub answering : List ℕ → ℕ → Heading → Audio → Decoded
-answering s skipped (Ok tt) a = framed_of s skipped a
+answering s skipped (Ok _) a = framed_of s skipped a
 answering s skipped (Err n) a = record { answer = Refused n; state = a; skipped = skipped }
 
 abbrev pub remembering : List ℕ → List Float → Heading → Audio → List Float
-remembering s memory (Ok tt) a = framed_memory s a memory
+remembering s memory (Ok _) a = framed_memory s a memory
 remembering s memory (Err n) a = memory
 
 abbrev pub sounding : List ℕ → List Float → List Float → Heading → Audio → List Float
-sounding s memory output (Ok tt) a = framed_output s a memory output
+sounding s memory output (Ok _) a = framed_output s a memory output
 sounding s memory output (Err n) a = output
 
 unfoldable pub decode_of : List ℕ → List Float → List Float → Audio → Decoded
@@ -111,7 +111,7 @@ abbrev pub clip_format : ℕ → ℕ → ℕ → ClipFormat
 clip_format rate kbps mode = record { rate = rate; kbps = kbps; mode = mode }
 
 abbrev pub saying : Heading → Format → Reply
-saying (Ok tt) f = Ok (clip_format (rate_of f.samplerate) (kbps_of f.bitrate) f.mode)
+saying (Ok _) f = Ok (clip_format (rate_of f.samplerate) (kbps_of f.bitrate) f.mode)
 saying (Err n) f = Err n
 
 -- and the state goes with it

@@ -120,7 +120,7 @@ unfolding decode_of framed_of after_of
 decode_skipped s memory output a = by (ready_of s (length memory) (length output) a).answer
   where
     by : (h : Heading) → let r = ready_of s (length memory) (length output) a in (answering s r.skipped h r.state).skipped ≡ r.skipped
-    by (Ok tt) = refl
+    by (Ok _) = refl
     by (Err n) = refl
 
 pub decode_passes_few : (s : List ℕ) (memory output : List Float) (a : Audio) → (decode_of s memory output a).skipped ≤ length s

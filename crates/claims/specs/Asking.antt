@@ -1,6 +1,6 @@
 -- One question about the format (02, E7), and what it changes: nothing that the next call of decode would not change itself. What it
 -- told is so until the next opening. From 01, "Numbers a call can give" (what is left behind). Assumes nothing.
-use Rattle.std.specs.Prelude.{ℕ, ◌+◌, ◌≤◌, true, List, Float, length}
+use Rattle.std.specs.Prelude.{ℕ, ◌+◌, ◌≤◌, true, List, Float, length, Ok, Err}
 use Rattle.std.proofs.Math.Path.{◌≡◌, refl, ap}
 use Rattle.std.proofs.Common.{sym, ◌∙◌, arith}
 use Rattle.ground.specs.Rows.{never}
@@ -10,26 +10,21 @@ use Rattle.header.specs.declared.Format.{Format}
 use Rattle.state.specs.State.{in_range, stands_at}
 use Rattle.state.specs.StateLaws.{ranged, ranged_in_range}
 use Rattle.state.specs.declared.Audio.{Audio}
-use Rattle.verdict.specs.Verdict.{asked, ready_of, known_of}
+use Rattle.verdict.specs.Verdict.{asked, ready_of, known_of, Heading, Asked}
 use Rattle.verdict.specs.VerdictLaws.{known_ranged, further, known_first}
-use Rattle.verdict.specs.declared.Asked.{Asked}
-use Rattle.verdict.specs.declared.Heading.{Heading}
-use Rattle.verdict.specs.declared.Heading.TheVariants.{Known, Refused}
-use Rattle.audio.specs.Calls.{after_of, framed_of, answering, remembering, sounding, saying, replying, format_of, decode_of, decode_memory, decode_output}
-use Rattle.audio.specs.declared.Reply.TheVariants.{Format as ReplyFormat, Refused as ReplyRefused}
-use Rattle.audio.specs.declared.Replied.{Replied}
-use Rattle.audio.specs.declared.Decoded.{Decoded}
+use Rattle.audio.specs.Calls.{after_of, framed_of, answering, remembering, sounding, saying, replying, format_of, decode_of, decode_memory, decode_output, Replied, Decoded, clip_format}
 use Rattle.past.specs.Calls.{Call, outcome}
 use Rattle.past.specs.Formats.{format_stays}
 use Rattle.past.specs.Sound.{decode_stays_in_range}
 use Rattle.claims.specs.Numbers.{Lent, told, Asks, eight, ten, known, accepted, sought, question_table, Decodes, decode_table, passed, refused}
+use Rattle.refusal.specs.declared.Refusal.{Refusal}
 
 -- the answer is a format
 pub record Tells (s : List ℕ) (a : Audio) : Type 0 where
   pub rate : ℕ
   pub kbps : ℕ
   pub mode : ℕ
-  pub answer : (format_of s a).answer ≡ ReplyFormat rate kbps mode
+  pub answer : (format_of s a).answer ≡ Ok (clip_format rate kbps mode)
 
 -- a state that has a format, in range, tells it on every stream that is not too long, and stays
 pub told_as_known : (s : List ℕ) (a : Audio) → length s ≤ longest_stream → in_range a ≡ true → (a.format.samplerate ≡ 3 → ⊥)
@@ -37,13 +32,13 @@ pub told_as_known : (s : List ℕ) (a : Audio) → length s ≤ longest_stream �
 told_as_known s a short within knows = sym ((question_table s a).only (known short within knows)).0
 
 module _ (s : List ℕ) (a : Audio) (tells : Tells s a) where
-  is_known : (known_of s a).answer ≡ Known
+  is_known : (known_of s a).answer ≡ Ok tt
   unfolding format_of
   is_known = by (known_of s a).answer tells.answer
     where
-      by : (h : Heading) → saying h (known_of s a).state.format ≡ ReplyFormat tells.rate tells.kbps tells.mode → h ≡ Known
-      by Known e = refl
-      by (Refused n) e = absurd (let z : ◌≡◌ {A = ℕ} 0 1 = cc in omega arith)
+      by : (h : Heading) → saying h (known_of s a).state.format ≡ ReplyFormat tells.rate tells.kbps tells.mode → h ≡ Ok tt
+      by (Ok _) e = refl
+      by (Err n) e = absurd (let z : ◌≡◌ {A = ℕ} 0 1 = cc in omega arith)
 
   -- what decode then gives, on the same stream and lent enough, is what it would have given without the question: an accepted header
   -- is pending, and not sought again. So what the question passed over, decode does not pass again: together it is the same
@@ -59,8 +54,8 @@ module _ (s : List ℕ) (a : Audio) (tells : Tells s a) where
     answered : (k : ℕ) (h : Heading) (b : Audio) → let d = answering s k h b in let e = answering s ((format_of s a).skipped + k) h b in
         record { answer = d.answer; state = d.state; skipped = (format_of s a).skipped + d.skipped } ≡ e
     unfolding framed_of after_of
-    answered k Known b = refl
-    answered k (Refused n) b = refl
+    answered k (Ok _) b = refl
+    answered k (Err n) b = refl
 
     pub asking_first_changes_nothing :
         (record { answer = asked_first.answer; state = asked_first.state; skipped = (format_of s a).skipped + asked_first.skipped }
@@ -87,10 +82,10 @@ module _ (s : List ℕ) (a : Audio) (tells : Tells s a) where
 
 -- a refused question is a refused call of decode: the same number, the same state left, as many bytes passed over
 pub refused_alike : (s : List ℕ) (memory output : List Float) (a : Audio) → Lent s memory output → in_range a ≡ true
-    → (n : ℕ) → (format_of s a).answer ≡ ReplyRefused n → decode_of s memory output a ≡ refused (format_of s a).skipped n (format_of s a).state
+    → (n : ℕ) → (format_of s a).answer ≡ Err n → decode_of s memory output a ≡ refused (format_of s a).skipped n (format_of s a).state
 refused_alike s memory output a lent within n e = by (question_table s a).holds e
   where
-    by : {k : ℕ} {x : Replied} → Asks s a k x → x.answer ≡ ReplyRefused n → decode_of s memory output a ≡ refused x.skipped n x.state
+    by : {k : ℕ} {x : Replied} → Asks s a k x → x.answer ≡ Err n → decode_of s memory output a ≡ refused x.skipped n x.state
     by (eight l) e = absurd (let short = lent.short in omega arith)
     by (ten l w) e = absurd (never within w)
     by (known l w k) e = absurd (let z : ◌≡◌ {A = ℕ} 0 1 = cc in omega arith)

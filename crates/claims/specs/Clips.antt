@@ -1,7 +1,7 @@
 -- Two clips of three frames, for the promises on them: one begins with a frame whose last slot knocks, the other with silence, and then both
 -- have two silent frames, each where the standard says that the one before it ends. What the decoder does on them, call by call, is
 -- computed, with any memory and output that are long enough. Assumes nothing.
-use Rattle.std.specs.Prelude.{ℕ, ◌-◌, ◌/◌, ◌≤◌, ◌≡◌, true, false, ltb, ℤ, pos, negsuc, Float, length, replicate, set}
+use Rattle.std.specs.Prelude.{ℕ, ◌-◌, ◌/◌, ◌≤◌, ◌≡◌, true, false, ltb, ℤ, pos, negsuc, Float, length, replicate, set, Ok}
 use Rattle.std.proofs.Math.Path.{refl, ap}
 use Rattle.std.proofs.Common.{◌∙◌}
 use mathlib.Core.List.{List, [], ◌∷◌, ◌++◌}
@@ -28,14 +28,12 @@ use Rattle.frame.specs.Frame.{codes_in, cut_format, granules_at}
 use Rattle.clock.specs.Clock.{are_same_bits, on_time, start_time_of}
 use Rattle.state.specs.State.{fresh, numbers_ok, in_range, pends, framed_to}
 use Rattle.state.specs.declared.Audio.{Audio}
-use Rattle.verdict.specs.Verdict.{asked, attempt_of, headed_of, enough_of, ready_of, at_once_of}
-use Rattle.verdict.specs.declared.Asked.{Asked}
-use Rattle.verdict.specs.declared.Heading.TheVariants.{Known}
-use Rattle.audio.specs.Calls.{aligned_of, after_of, framed_of, open_of, open_memory, no_room_of}
-use Rattle.audio.specs.declared.Decoded.{Decoded}
+use Rattle.verdict.specs.Verdict.{asked, attempt_of, headed_of, enough_of, ready_of, at_once_of, Asked}
+use Rattle.audio.specs.Calls.{aligned_of, after_of, framed_of, open_of, open_memory, no_room_of, Decoded}
 use Rattle.past.specs.Pasts.{Past, opened, decoded}
 use Rattle.past.specs.Calls.{Call, outcome, new_memory, before, known_leaves}
 use Rattle.past.specs.Ring.{memory_kept_long}
+use Rattle.refusal.specs.declared.Refusal.{Refusal}
 
 -- ---- the streams: 32 kbps, 44,100 Hz, mono, so frames of 104 bytes
 
@@ -82,7 +80,7 @@ headed_three = pends (reader_at 1696) mono 100 two
 
 -- each with the bytes that were passed over: to the second from where the first frame's reading ended
 abbrev pub headings : ℕ → List Asked
-headings end = asked 0 Known headed ∷ asked (104 - end / 8) Known headed_two ∷ asked 96 Known headed_three ∷ []
+headings end = asked 0 (Ok tt) headed ∷ asked (104 - end / 8) (Ok tt) headed_two ∷ asked 96 (Ok tt) headed_three ∷ []
 
 -- what is computed of a stream: its headers and that their data are there, the frames, and that the states are in range
 pub record Course (s : List ℕ) (granules : List (List ℤ)) (last end : ℕ) : Type 0 where
@@ -145,13 +143,13 @@ module _ {s : List ℕ} {granules : List (List ℤ)} {last end : ℕ} (course : 
 
   -- a call from a known state, and the state that its frame leaves
   module _ (memory : List Float) (k : ℕ) (a b : Audio) where
-    stands : memory_length ≤ length memory → in_range a ≡ true → headed_of s a ≡ asked k Known b → enough_of s k b ≡ asked k Known b
-        → (c : Audio) → c ≡ a → before (on memory c) ≡ asked k Known b
+    stands : memory_length ≤ length memory → in_range a ≡ true → headed_of s a ≡ asked k (Ok tt) b → enough_of s k b ≡ asked k (Ok tt) b
+        → (c : Audio) → c ≡ a → before (on memory c) ≡ asked k (Ok tt) b
     unfolding ready_of at_once_of
     stands big ranged heading enough c is =
         ap (λ (x : Audio). before (on memory x)) is ∙ simp (course.short, le-ltb _ _ big, le-ltb _ _ room, ranged, heading, enough)
 
-    leaves : (xs : List (List ℤ)) (last end : ℕ) → before (on memory a) ≡ asked k Known b → granules_at s b.reader b.format ≡ taken xs (reader_at last)
+    leaves : (xs : List (List ℤ)) (last end : ℕ) → before (on memory a) ≡ asked k (Ok tt) b → granules_at s b.reader b.format ≡ taken xs (reader_at last)
         → aligned_of s (reader_at last) ≡ reader_at end
         → (outcome (on memory a)).state ≡ framed_to (reader_at end) (cut_format b.format) (position_after b.ring 36) b
     unfolding framed_of after_of
@@ -163,13 +161,13 @@ module _ {s : List ℕ} {granules : List (List ℤ)} {last end : ℕ} (course : 
 
   -- entry i of what was computed
   abbrev heading : ℕ → List Asked → Asked
-  heading i xs = get_or xs i (asked 0 Known headed)
+  heading i xs = get_or xs i (asked 0 (Ok tt) headed)
 
   pub opened_at : one_call.state ≡ headed
   unfolding open_of no_room_of
   opened_at = simp (course.short, le-ltb _ _ long) (ap (λ xs. (heading 0 xs).state) course.found)
 
-  pub before_first : before one_call ≡ asked 0 Known headed
+  pub before_first : before one_call ≡ asked 0 (Ok tt) headed
   unfolding headed_of
   before_first =
       stands one_call.memory 0 headed headed (memory_kept_long past_one) (ap (λ xs. get_or xs 0 false) course.ranged) refl
@@ -181,7 +179,7 @@ module _ {s : List ℕ} {granules : List (List ℤ)} {last end : ℕ} (course : 
       leaves one_call.memory 0 one_call.state headed granules last end before_first (ap (λ xs. get_or xs 0 (taken [] (reader_at 0))) course.reads)
       (ap (λ xs. get_or xs 0 (reader_at 0)) course.aligned)
 
-  pub before_second : before two_calls ≡ asked (104 - end / 8) Known headed_two
+  pub before_second : before two_calls ≡ asked (104 - end / 8) (Ok tt) headed_two
   unfolding headed_of
   before_second =
       stands two_calls.memory (104 - end / 8) (one end) headed_two (memory_kept_long past_two) (ap (λ xs. get_or xs 1 false) course.ranged)
@@ -193,7 +191,7 @@ module _ {s : List ℕ} {granules : List (List ℤ)} {last end : ℕ} (course : 
       leaves two_calls.memory (104 - end / 8) two_calls.state headed_two silence 890 896 before_second (ap (λ xs. get_or xs 1 (taken [] (reader_at 0))) course.reads)
       (ap (λ xs. get_or xs 1 (reader_at 0)) course.aligned)
 
-  pub before_third : before three_calls ≡ asked 96 Known headed_three
+  pub before_third : before three_calls ≡ asked 96 (Ok tt) headed_three
   unfolding headed_of
   before_third =
       stands three_calls.memory 96 two headed_three (memory_kept_long past_three) (ap (λ xs. get_or xs 2 false) course.ranged)

@@ -1,6 +1,6 @@
 -- Demand 3's premises can be met: two decoders opened on 01's frame of zeros, FF FD A0 00 and 622 zero bytes, with any two memories and
 -- outputs, accept it, agree, and both use 188 bits. Assumes nothing.
-use Rattle.std.specs.Prelude.{ℕ, ◌+◌, ◌*◌, ◌%◌, ◌≤◌, ◌<◌, ◌≡◌, refl, true, List, Float, length}
+use Rattle.std.specs.Prelude.{ℕ, ◌+◌, ◌*◌, ◌%◌, ◌≤◌, ◌<◌, ◌≡◌, refl, true, List, Float, length, Ok}
 use Rattle.std.proofs.Common.{sym, ap, ◌∙◌, lit≤}
 use Rattle.std.specs.Float.Ieee.{is_nan, to_bits, of_int, div}
 use borrow.Author.Tests.{le-ltb}
@@ -16,23 +16,22 @@ use Rattle.frame.specs.Frame.{codes_in}
 use Rattle.clock.specs.Clock.{are_same_bits, on_time, start_time_of}
 use Rattle.readings.specs.Readings.{plain}
 use Rattle.state.specs.State.{fresh, numbers_ok, in_range, pends}
-use Rattle.verdict.specs.Verdict.{asked, attempt_of, headed_of, enough_of, ready_of, at_once_of}
+use Rattle.verdict.specs.Verdict.{asked, attempt_of, headed_of, enough_of, ready_of, at_once_of, Asked}
 use Rattle.audio.specs.Calls.{open_of, open_memory, no_room_of}
 use Rattle.state.specs.declared.Audio.{Audio}
-use Rattle.verdict.specs.declared.Asked.{Asked}
-use Rattle.verdict.specs.declared.Heading.TheVariants.{Known}
 use Rattle.past.specs.Pasts.{Past, opened}
 use Rattle.past.specs.Calls.{Call, new_output, sample, before, frame_state, first_bit, bits_called, Accepts, known_accepted}
 use Rattle.past.specs.Ring.{memory_kept_long}
 use Rattle.claims.specs.Widths.{bits_are_the_widths}
 use Rattle.ringout.specs.RingOut.{Agreeing, agree_on}
 use Rattle.ringout.proofs.RingOut.{rings_out}
+use Rattle.refusal.specs.declared.Refusal.{Refusal}
 
 -- the state after the header
 abbrev pub headed : Audio
 headed = pends (reader_at 32) (record { reading = plain; samplerate = 0; bitrate = 9; mode = 0; bound = 32 }) 622 (fresh plain)
 
-found : attempt_of zeros (fresh plain) ≡ asked 0 Known headed
+found : attempt_of zeros (fresh plain) ≡ asked 0 (Ok tt) headed
 unfolding attempt_of fresh header_of start_of sync_of has_of skip_bytes_of field_of read_of bits_value bit_at first_from run ◌>>=◌ fields_of ident_of rates_of rest_of
     mode_of bound_of check_of size_of
 found = refl
@@ -53,14 +52,14 @@ module _ (m o : List Float) (long : memory_length ≤ length m) (room : output_l
   pub opened_on_zeros : Past (opening m o).state (opening m o).memory
   opened_on_zeros = opened plain zeros m (lit≤ tt) long
 
-  pub opened_to_header : open_of plain zeros m ≡ asked 0 Known headed
+  pub opened_to_header : open_of plain zeros m ≡ asked 0 (Ok tt) headed
   unfolding open_of no_room_of
   opened_to_header = simp (le-ltb _ _ long) found
 
   at_header : (opening m o).state ≡ headed
   at_header = ap (λ (x : Asked). x.state) opened_to_header
 
-  pub before_zeros : before (opening m o) ≡ asked 0 Known headed
+  pub before_zeros : before (opening m o) ≡ asked 0 (Ok tt) headed
   unfolding ready_of at_once_of headed_of enough_of has_of
   before_zeros = simp (at_header, le-ltb _ _ (memory_kept_long opened_on_zeros), le-ltb _ _ room, sound)
 

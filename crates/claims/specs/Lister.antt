@@ -1,6 +1,6 @@
 -- The lister's lines, in any reading: they come to an end, which is the last line and no other. From 01, the lister: "calls until 1 or 7".
 -- Assumes nothing.
-use Rattle.std.specs.Prelude.{ℕ, zero, suc, ◌+◌, ◌*◌, ◌/◌, ◌≤◌, ◌<◌, ◌≡◌, refl, Bool, true, false, cond, eqb, length, get_or}
+use Rattle.std.specs.Prelude.{ℕ, zero, suc, ◌+◌, ◌*◌, ◌/◌, ◌≤◌, ◌<◌, ◌≡◌, refl, Bool, true, false, cond, eqb, length, get_or, Ok, Err}
 use Rattle.std.proofs.Common.{ap, ◌∙◌, add-zero, arith, lt-ltb, ltb-false}
 use mathlib.Core.List.{List, [], ◌∷◌, ◌++◌, flat_map}
 use Rattle.std.proofs.lemmas.Bool.{eqb-false}
@@ -14,9 +14,6 @@ use Rattle.state.specs.State.{fresh}
 use Rattle.state.specs.StateLaws.{fresh_ranged}
 use Rattle.state.specs.declared.Audio.{Audio}
 use Rattle.verdict.specs.VerdictLaws.{attempt_kept, not_known}
-use Rattle.verdict.specs.declared.Asked.{Asked}
-use Rattle.verdict.specs.declared.Heading.{Heading}
-use Rattle.verdict.specs.declared.Heading.TheVariants.{Known, Refused as HeadingRefused}
 use Rattle.audio.specs.Calls.{open_of}
 use Rattle.audio.specs.CallsLaws.{by_opening}
 use Rattle.audio.specs.Numbers.{ends, answer_number}
@@ -33,6 +30,8 @@ use Rattle.past.specs.Calls.{Call, outcome}
 use Rattle.past.specs.Moves.{call_moves}
 use Rattle.heard.specs.Heard.{after, opening, Begun, opening_begun, begun_on}
 use Rattle.claims.specs.Passed.{nothing_sought}
+use Rattle.verdict.specs.Verdict.{Heading, Asked}
+use Rattle.refusal.specs.declared.Refusal.{Refusal}
 
 -- ---- the last line is an end, and no other is
 
@@ -87,12 +86,12 @@ module _ (r : Reading) (s : List ℕ) (short : length s ≤ longest_stream) wher
   abbrev opened : Asked
   opened = open_of r s (quiet memory_length)
 
-  pends : opened.answer ≡ Known → (opening r s).state.pending ≡ 0 → ⊥
+  pends : opened.answer ≡ Ok tt → (opening r s).state.pending ≡ 0 → ⊥
   pends =
-      by_opening r s (quiet memory_length) (λ (x : Asked). x.answer ≡ Known → x.state.pending ≡ 0 → ⊥) (λ _ e. absurd (not_known e))
+      by_opening r s (quiet memory_length) (λ (x : Asked). x.answer ≡ Ok tt → x.state.pending ≡ 0 → ⊥) (λ _ e. absurd (not_known e))
       (λ _ _ e. absurd (not_known e)) (λ l _. (attempt_kept s l (fresh r) (fresh_ranged r)).some)
 
-  pub goes_to_the_line_after_it : opened.answer ≡ Known → skipped_in (line_at (carried_by opened.skipped opened.answer) (opening r s)) ≡ opened.skipped
+  pub goes_to_the_line_after_it : opened.answer ≡ Ok tt → skipped_in (line_at (carried_by opened.skipped opened.answer) (opening r s)) ≡ opened.skipped
   goes_to_the_line_after_it known =
       carried_to_a_line (carried_by opened.skipped opened.answer) (opening r s)
       ∙ ap (λ h. carried_by opened.skipped h + (outcome (opening r s)).skipped) known
@@ -125,8 +124,8 @@ comes_to_an_end (suc k) (suc calls) carried c l b few =
     one_more (line_at carried c) _ e (comes_to_an_end k calls 0 (after c) (omega arith) (begun_on c b) (omega arith)))
 
 opening_first : (skipped : ℕ) (h : Heading) (a : Audio) (xs : List Shown) → EndsOnce (lines_in xs) → EndsOnce (lines_in (opening_shown skipped h a ++ xs))
-opening_first skipped Known a xs e = e
-opening_first skipped (HeadingRefused n) a xs e =
+opening_first skipped (Ok _) a xs e = e
+opening_first skipped (Err n) a xs e =
     by_test (λ (ys : List Shown). EndsOnce (lines_in (ys ++ xs))) (opening_told n) _ _ (λ _. one_more (RefusedLine n (byte_position a) skipped) _ refl e)
     (λ _. e)
 

@@ -1,7 +1,7 @@
 -- In mono both channels sound alike, and a WAVE file has the same bytes for both. From docs/DIFFERENCES.md, S10: "Mono is written to both
 -- channels"; 02, E1: "16-bit stereo". A mono frame's bound is 0, and from the bound up the right channel takes the left's samples; no
 -- frame of another mode can have come before it (6), so the two rings are equal. Assumes nothing.
-use Rattle.std.specs.Prelude.{ℕ, ◌+◌, ◌-◌, ◌*◌, ◌%◌, ◌≤◌, ◌<◌, ◌≡◌, List, Float, length, drop}
+use Rattle.std.specs.Prelude.{ℕ, ◌+◌, ◌-◌, ◌*◌, ◌%◌, ◌≤◌, ◌<◌, ◌≡◌, List, Float, length, drop, Result, Ok, Err}
 use Rattle.std.proofs.Math.Path.{refl, sym, ap}
 use Rattle.std.proofs.Common.{◌∙◌, arith, ext_get_or, le-ltb}
 use Rattle.std.specs.Float.{nan}
@@ -11,8 +11,6 @@ use Rattle.tables.specs.Laws.{limit≤30}
 use Rattle.header.specs.Header.{bound_by, header_of}
 use Rattle.header.specs.Accepted.{SameFormat, GoodHeader, header_good}
 use Rattle.header.specs.declared.Format.{Format}
-use Rattle.header.specs.declared.Header.{Header}
-use Rattle.header.specs.declared.Header.TheVariants.{Accepted, Refused as HeaderRefused}
 use Rattle.side.specs.Side.{cut_of}
 use Rattle.codes.specs.Twins.{Twins, frame_twins}
 use Rattle.window.specs.Output.{nought}
@@ -24,13 +22,10 @@ use Rattle.finite.specs.Each.{Each, InBothRings}
 use Rattle.frame.specs.Frame.{limit_in, codes_in, granules_at, slots_of}
 use Rattle.readings.specs.Readings.{plain}
 use Rattle.state.specs.State.{fresh}
-use Rattle.verdict.specs.Verdict.{seeking, attempt_of}
+use Rattle.verdict.specs.Verdict.{seeking, attempt_of, Heading, Asked}
 use Rattle.audio.specs.Calls.{decode_memory, open_of, open_memory, no_room_of}
 use Rattle.audio.specs.CallsLaws.{question_leaves, by_opening}
 use Rattle.state.specs.declared.Audio.{Audio}
-use Rattle.verdict.specs.declared.Asked.{Asked}
-use Rattle.verdict.specs.declared.Heading.{Heading}
-use Rattle.verdict.specs.declared.Heading.TheVariants.{Known, Refused}
 use Rattle.past.specs.Pasts.{Past, opened, asked, decoded, refused, relent}
 use Rattle.past.specs.Calls.{Call, outcome, new_memory, new_output, sample, before, frame_state, Accepts, granules_in, known_leaves, accepted_known, accepted_leaves}
 use Rattle.past.specs.Ring.{ring_in_place, memory_kept_long, relent_rings}
@@ -39,6 +34,8 @@ use Rattle.frame.specs.FrameLaws.{granule_always}
 use Rattle.past.specs.Sound.{sound_state_in_range, sound, frame_has_extension}
 use Rattle.heard.specs.Heard.{after}
 use Rattle.past.specs.Formats.{attempt_stays, after_frame, format_stays}
+use Rattle.refusal.specs.declared.Refusal.{Refusal}
+use Rattle.header.specs.declared.Accepted.{Accepted}
 
 -- ---- a frame's slots
 
@@ -72,7 +69,7 @@ opened_rings s m short long =
 
 module _ (c : Call) (past : Past c.state c.memory) where
   -- a frame in mono has the bound 0
-  frame_slots : (before c).answer ≡ Known → (frame_state c).format.mode ≡ 3 → SameSlots 36 (slots_of (granules_in c) 0) (slots_of (granules_in c) 1)
+  frame_slots : (before c).answer ≡ Ok tt → (frame_state c).format.mode ≡ 3 → SameSlots 36 (slots_of (granules_in c) 0) (slots_of (granules_in c) 1)
   frame_slots known mono =
       let x = frame_has_extension c.stream (length c.memory) (length c.output) c.state (sound_state_in_range past) (sound past) known in
       slots_alike c.stream (frame_state c).reader (frame_state c).format (x.2 ∙ ap (λ (m : ℕ). bound_by m x.0) mono)
@@ -82,13 +79,13 @@ module _ (c : Call) (past : Past c.state c.memory) where
   decoded_rings rings mono = go (before c).answer refl
     where
       go : (h : Heading) → (before c).answer ≡ h → ring_of 0 (new_memory c) ≡ ring_of 1 (new_memory c)
-      go Known e =
+      go (Ok _) e =
           let d = known_leaves c e in
           let is = was_mono (λ _. after_frame c) mono (λ none. let l = d.goes.ready.fit.samplerate in omega arith) in
           ap (ring_of 0) d.memory
           ∙ rings_stay_equal (slots_of (granules_in c)) (ring_in_place past) c.memory (memory_kept_long past) 36 (frame_slots e is) rings
           ∙ sym (ap (ring_of 1) d.memory)
-      go (Refused n) e = rw e rings
+      go (Err n) e = rw e rings
 
 mono_rings : {a : Audio} {m : List Float} → Past a m → Mono a.format → ring_of 0 m ≡ ring_of 1 m
 mono_rings (opened c s m short long) mono = opened_rings s m short long
@@ -130,9 +127,9 @@ open_known s m =
     K : Asked → Type 0
     K x = x.state.format.mode ≡ 3 → x.state.format.samplerate ≡ 3 → ⊥
 
-    go : (k : ℕ) (h : Header) (r : Reader) → GoodHeader (fresh plain).format h → K (seeking k (fresh plain) r h)
-    go k (Accepted f n) r g = λ _ none. let l = g.samplerate in omega arith
-    go k (HeaderRefused n) r g = λ e. absurd (omega arith)
+    go : (k : ℕ) (h : Result Accepted Refusal) (r : Reader) → GoodHeader (fresh plain).format h → K (seeking k (fresh plain) r h)
+    go k (Ok x) r g = λ _ none. let l = g.samplerate in omega arith
+    go k (Err n) r g = λ e. absurd (omega arith)
 
 pub record InMono (c : Call) : Type 0 where
   pub past : Past c.state c.memory

@@ -1,7 +1,7 @@
 -- The three public calls by 01's table: each number given exactly when, what is left behind, and the order where several would hold:
 -- 8, 9, 10, then 1 to 6 and 13 (02, E3) as the header is read, then 7. Each row also says how many bytes were passed over (02, E2). Each table has its
 -- rows as constructors. Assumes nothing.
-use Rattle.std.specs.Prelude.{ℕ, ◌-◌, ◌*◌, ◌≤◌, ◌<◌, ◌≡◌, refl, true, false, List, ◌⊎◌, T, Float, length}
+use Rattle.std.specs.Prelude.{ℕ, ◌-◌, ◌*◌, ◌≤◌, ◌<◌, ◌≡◌, refl, true, false, List, ◌⊎◌, T, Float, length, Result, Ok, Err}
 use Rattle.std.proofs.Math.Path.{sym, ap, subst}
 use Rattle.std.proofs.Common.{◌∙◌, inl, inr}
 use borrow.Author.Tests.{lt-ltb, le-ltb, eq-eqb, ne_eqb}
@@ -9,33 +9,28 @@ use Rattle.buffer.specs.Calls.{byte_after_of, left}
 use Rattle.buffer.specs.declared.BytePos.{BytePos}
 use Rattle.buffer.specs.declared.Reader.{Reader}
 use Rattle.tables.specs.Standard.{rate_of, kbps_of}
-use Rattle.header.specs.Header.{header_of, refusal, header_number}
+use Rattle.header.specs.Header.{header_of, refusal, header_number, accepted_header}
 use Rattle.header.specs.declared.Format.{Format}
-use Rattle.header.specs.declared.Header.{Header}
-use Rattle.header.specs.declared.Header.TheVariants.{Accepted, Refused as HeaderRefused}
 use Rattle.header.specs.declared.Attempt.{Attempt}
 use Rattle.state.specs.State.{fresh, in_range, stands_at, pends}
-use Rattle.verdict.specs.Verdict.{asked, seeking, tried, attempt_of, at_once_of, known_of}
-use Rattle.audio.specs.Calls.{answering, remembering, sounding, after_of, framed_of, framed_memory, framed_output, decode_of, decode_memory, decode_output, open_of, replying, format_of, no_room_of}
+use Rattle.verdict.specs.Verdict.{asked, seeking, tried, attempt_of, at_once_of, known_of, Asked}
+use Rattle.audio.specs.Calls.{answering, remembering, sounding, after_of, framed_of, framed_memory, framed_output, decode_of, decode_memory, decode_output, open_of, replying, format_of, no_room_of, Reply, Replied, Decoded}
 use Rattle.audio.specs.Numbers.{heading_number, reply_number, answer_number}
 use Rattle.state.specs.StateLaws.{ranged, ranged_in_range}
 use Rattle.audio.specs.CallsLaws.{by_opening}
 use Rattle.verdict.specs.VerdictLaws.{Room, Called, AtOnce, Heads, Verdict, at_once, no_header, cut_off, whole, verdict_holds, verdict_only, heads_kept, by_asking, not_known}
 use Rattle.readings.specs.declared.Reading.{Reading}
 use Rattle.state.specs.declared.Audio.{Audio}
-use Rattle.verdict.specs.declared.Asked.{Asked}
-use Rattle.verdict.specs.declared.Heading.TheVariants.{Known, Refused}
-use Rattle.audio.specs.declared.Reply.{Reply}
-use Rattle.audio.specs.declared.Reply.TheVariants.{Format as ReplyFormat, Refused as ReplyRefused}
-use Rattle.audio.specs.declared.Replied.{Replied}
 use Rattle.audio.specs.declared.Answer.TheVariants.{Refused as AnswerRefused}
-use Rattle.audio.specs.declared.Decoded.{Decoded}
 use Rattle.ground.specs.Rows.{TableOf, exactly, never}
 use Rattle.synthesis.specs.Slots.{memory_length, output_length}
 use Rattle.buffer.specs.Bits.{longest_stream}
 use Rattle.header.specs.Attempts.{Attempts, attempt_table, attempt_number, first_gives, first_number}
 use Rattle.past.specs.Pasts.{Past}
 use Rattle.past.specs.Sound.{fresh_in_range, sound_state_in_range}
+use Rattle.refusal.specs.declared.Refusal.TheVariants.{LongStream, LittleRoom}
+use Rattle.refusal.specs.declared.Refusal.{Refusal}
+use Rattle.header.specs.declared.Accepted.{Accepted}
 
 -- ---- decode
 
@@ -56,7 +51,7 @@ passed a sync = sync.0 - (byte_after_of a.reader.at).0
 pub data Pending (s : List ℕ) (a : Audio) : ℕ → Audio → Type 0 where
   waits : (a.pending ≡ 0 → ⊥) → Pending s a 0 a
   accepts : {f : Format} {size : ℕ} {sync : BytePos} {r : Reader} → a.pending ≡ 0
-      → Attempts s a.reader a.format 0 (record { header = Accepted f size; sync = sync; next = r })
+      → Attempts s a.reader a.format 0 (record { header = Ok (accepted_header f size); sync = sync; next = r })
       → Pending s a (passed a sync) (pends r f size a)
 
 -- so many bytes passed over, a number, and the state
@@ -92,32 +87,32 @@ module _ (s : List ℕ) (a : Audio) (short : length s ≤ longest_stream) (withi
 
   -- and the row that it stands in, by its answer
   module _ {b : Audio} (z : a.pending ≡ 0) where
-    accepted_row : {k : ℕ} → attempt_of s a ≡ asked k Known b → Pending s a k b
+    accepted_row : {k : ℕ} → attempt_of s a ≡ asked k (Ok tt) b → Pending s a k b
     unfolding attempt_of
     accepted_row {k} e = by t.header t.sync t.next rows.holds e
       where
         t : Attempt
         t = header_of s a.reader a.format
 
-        by : (h : Header) (c : BytePos) (r : Reader) → Attempts s a.reader a.format (header_number h) (record { header = h; sync = c; next = r })
-            → seeking (passed a c) a r h ≡ asked k Known b → Pending s a k b
-        by (Accepted f size) c r row e =
+        by : (h : Result Accepted Refusal) (c : BytePos) (r : Reader) → Attempts s a.reader a.format (header_number h) (record { header = h; sync = c; next = r })
+            → seeking (passed a c) a r h ≡ asked k (Ok tt) b → Pending s a k b
+        by (Ok x) c r row e =
             subst (λ (x : Asked). Pending s a x.skipped x.state) e (accepts z row)
-        by (HeaderRefused n) c r row e = absurd (not_known (ap (λ (x : Asked). x.answer) e))
+        by (Err n) c r row e = absurd (not_known (ap (λ (x : Asked). x.answer) e))
 
     refused_row : {k n : ℕ} (P : Asked → Type 0)
-        → ((n : ℕ) (c : BytePos) (r : Reader) → Attempts s a.reader a.format n (refusal n c r) → P (asked (passed a c) (Refused n) (stands_at r a)))
-        → attempt_of s a ≡ asked k (Refused n) b → P (asked k (Refused n) b)
+        → ((n : ℕ) (c : BytePos) (r : Reader) → Attempts s a.reader a.format n (refusal n c r) → P (asked (passed a c) (Err n) (stands_at r a)))
+        → attempt_of s a ≡ asked k (Err n) b → P (asked k (Err n) b)
     unfolding attempt_of
     refused_row {k} {n} P row e = by t.header t.sync t.next rows.holds e
       where
         t : Attempt
         t = header_of s a.reader a.format
 
-        by : (h : Header) (c : BytePos) (r : Reader) → Attempts s a.reader a.format (header_number h) (record { header = h; sync = c; next = r })
-            → seeking (passed a c) a r h ≡ asked k (Refused n) b → P (asked k (Refused n) b)
-        by (Accepted f size) c r t e = absurd (not_known (sym (ap (λ (x : Asked). x.answer) e)))
-        by (HeaderRefused m) c r t e = subst P e (row m c r t)
+        by : (h : Result Accepted Refusal) (c : BytePos) (r : Reader) → Attempts s a.reader a.format (header_number h) (record { header = h; sync = c; next = r })
+            → seeking (passed a c) a r h ≡ asked k (Err n) b → P (asked k (Err n) b)
+        by (Ok x) c r t e = absurd (not_known (sym (ap (λ (x : Asked). x.answer) e)))
+        by (Err m) c r t e = subst P e (row m c r t)
 
 module _ (s : List ℕ) (memory output : List Float) (a : Audio) where
   abbrev Before : Asked → Type 0
@@ -175,9 +170,9 @@ module _ (s : List ℕ) (memory output : List Float) (a : Audio) where
 -- ---- an attempt's answer, for the calls that do no more
 
 module _ (s : List ℕ) (a : Audio) (short : length s ≤ longest_stream) (within : in_range a ≡ true) where
-  tried_number : (k : ℕ) (h : Header) (r : Reader) → heading_number (seeking k a r h).answer ≡ header_number h
-  tried_number k (Accepted f n) r = refl
-  tried_number k (HeaderRefused n) r = refl
+  tried_number : (k : ℕ) (h : Result Accepted Refusal) (r : Reader) → heading_number (seeking k a r h).answer ≡ header_number h
+  tried_number k (Ok x) r = refl
+  tried_number k (Err n) r = refl
 
   tried_stands : (Row : ℕ → Asked → Type 0) → ((n : ℕ) (x : Attempt) → Attempts s a.reader a.format n x → Row n (tried a x))
       → Row (heading_number (attempt_of s a).answer) (attempt_of s a)
@@ -199,7 +194,7 @@ abbrev pub told : Format → Reply
 told f = ReplyFormat (rate_of f.samplerate) (kbps_of f.bitrate) f.mode
 
 abbrev pub unanswered : ℕ → ℕ → Audio → Replied
-unanswered skipped n a = record { answer = ReplyRefused n; state = a; skipped = skipped }
+unanswered skipped n a = record { answer = Err n; state = a; skipped = skipped }
 
 pub data Asks (s : List ℕ) (a : Audio) : ℕ → Replied → Type 0 where
   -- "same state"; also where a format is known
@@ -209,7 +204,7 @@ pub data Asks (s : List ℕ) (a : Audio) : ℕ → Replied → Type 0 where
   known : length s ≤ longest_stream → in_range a ≡ true → (a.format.samplerate ≡ 3 → ⊥) → Asks s a 0 (record { answer = told a.format; state = a; skipped = 0 })
   -- sought and accepted: its header is pending
   accepted : {f : Format} {size : ℕ} {sync : BytePos} {r : Reader} → length s ≤ longest_stream → in_range a ≡ true → a.format.samplerate ≡ 3
-      → Attempts s a.reader a.format 0 (record { header = Accepted f size; sync = sync; next = r })
+      → Attempts s a.reader a.format 0 (record { header = Ok (accepted_header f size); sync = sync; next = r })
       → Asks s a 0 (record { answer = told f; state = pends r f size a; skipped = passed a sync })
   -- sought and refused, 1 to 5 or 13: "position moved"; with 1 it is the same
   sought : {n : ℕ} {sync : BytePos} {r : Reader} → length s ≤ longest_stream → in_range a ≡ true → a.format.samplerate ≡ 3
@@ -223,10 +218,10 @@ module _ (s : List ℕ) (a : Audio) where
   unfolding attempt_of Replies
   attempt_replies l w e = let t = header_of s a.reader a.format in by t.header t.sync t.next (rows s a l w).holds
     where
-      by : (h : Header) (b : BytePos) (r : Reader) → Attempts s a.reader a.format (header_number h) (record { header = h; sync = b; next = r })
+      by : (h : Result Accepted Refusal) (b : BytePos) (r : Reader) → Attempts s a.reader a.format (header_number h) (record { header = h; sync = b; next = r })
           → Replies (seeking (passed a b) a r h)
-      by (Accepted f size) b r row = accepted l w e row
-      by (HeaderRefused n) b r row = sought l w e row
+      by (Ok x) b r row = accepted l w e row
+      by (Err n) b r row = sought l w e row
 
   question_only : {n : ℕ} {x : Replied} → Asks s a n x → (x ≡ format_of s a) × (reply_number x.answer ≡ n)
   unfolding format_of known_of at_once_of
@@ -253,8 +248,8 @@ question_gives s a = question_row (question_table s a).holds
 -- ---- new: "it can give 0 to 5, 8 or 9 (memory only)"; 02, E3: "opening can give it [13], just as 2 to 5"
 
 pub data Opens (c : Reading) (s : List ℕ) (memory : List Float) : ℕ → Asked → Type 0 where
-  eight : longest_stream < length s → Opens c s memory 8 (asked 0 (Refused 8) (fresh c))
-  nine : length s ≤ longest_stream → length memory < memory_length → Opens c s memory 9 (asked 0 (Refused 9) (fresh c))
+  eight : longest_stream < length s → Opens c s memory 8 (asked 0 (Err LongStream) (fresh c))
+  nine : length s ≤ longest_stream → length memory < memory_length → Opens c s memory 9 (asked 0 (Err LittleRoom) (fresh c))
   sought : {n : ℕ} {x : Attempt} → length s ≤ longest_stream → memory_length ≤ length memory → Attempts s (fresh c).reader (fresh c).format n x
       → Opens c s memory n (seeking (passed (fresh c) x.sync) (fresh c) x.next x.header)
 

@@ -1,6 +1,6 @@
 -- Since opening a pending header ends on a byte, so a frame's first allocation bit is a byte's first, and the byte that the lister shows
 -- is that one. From 01, the lister: "byte after header and check word". Assumes nothing.
-use Rattle.std.specs.Prelude.{ℕ, ◌+◌, ◌-◌, ◌*◌, ◌/◌, ◌%◌, ◌≤◌, ◌<◌, ◌≡◌, Bool, cond, ◌&&◌, ◌||◌, List, ◌⊎◌, Float}
+use Rattle.std.specs.Prelude.{ℕ, ◌+◌, ◌-◌, ◌*◌, ◌/◌, ◌%◌, ◌≤◌, ◌<◌, ◌≡◌, Bool, cond, ◌&&◌, ◌||◌, List, ◌⊎◌, Float, Result, Ok, Err}
 use Rattle.std.proofs.Math.Path.{refl, ap}
 use Rattle.std.proofs.Common.{subst, inl, inr}
 use Rattle.std.proofs.Math.Bool.{true, false}
@@ -16,15 +16,13 @@ use Rattle.buffer.specs.Laws.{Enough, field_whole, field_read, field_moves}
 use Rattle.buffer.specs.declared.BytePos.{BytePos}
 use Rattle.buffer.specs.declared.Reader.{Reader}
 use Rattle.grammar.specs.Reads.{Reads, done, ask, ◌>>=◌, Taken, run}
-use Rattle.header.specs.Header.{by_search, seek_of, sync_of, start_of, by_start, header_of}
+use Rattle.header.specs.Header.{by_search, seek_of, sync_of, start_of, by_start, header_of, accepted_header}
 use Rattle.header.specs.Header.{ident_of, rates_of, mode_of, check_of, bound_of, bound_by, size_of, after_mode_of, rest_of, by_rates, by_ident, fields_of}
 use Rattle.header.specs.Moves.{few_bits_stay}
 use Rattle.header.specs.declared.Ident.{Ident}
 use Rattle.header.specs.declared.Ident.TheVariants.{LayerII, Refused as IdentRefused}
 use Rattle.header.specs.declared.Rates.{Rates}
 use Rattle.header.specs.declared.Format.{Format}
-use Rattle.header.specs.declared.Header.{Header}
-use Rattle.header.specs.declared.Header.TheVariants.{Accepted, Refused as HeaderRefused}
 use Rattle.header.specs.declared.Start.{Start}
 use Rattle.header.specs.declared.Start.TheVariants.{At, Refused as StartRefused}
 use Rattle.readings.specs.declared.Reading.{Reading}
@@ -32,11 +30,8 @@ use Rattle.tables.specs.Standard.{kbps_of, rate_of}
 use Rattle.state.specs.State.{fresh}
 use Rattle.state.specs.StateLaws.{Ranged, ranged}
 use Rattle.state.specs.declared.Audio.{Audio}
-use Rattle.verdict.specs.Verdict.{seeking, attempt_of, ready_of}
+use Rattle.verdict.specs.Verdict.{seeking, attempt_of, ready_of, Heading, Asked}
 use Rattle.verdict.specs.VerdictLaws.{Heads, waits, accepts, Verdict, at_once, no_header, cut_off, whole, verdict_holds, verdict_kept}
-use Rattle.verdict.specs.declared.Asked.{Asked}
-use Rattle.verdict.specs.declared.Heading.{Heading}
-use Rattle.verdict.specs.declared.Heading.TheVariants.{Known, Refused}
 use Rattle.audio.specs.Calls.{answering, after_of, framed_of, decode_of}
 use Rattle.audio.specs.CallsLaws.{question_leaves, by_opening}
 use Rattle.audio.specs.declared.Answer.{Answer}
@@ -47,11 +42,13 @@ use Rattle.past.specs.Calls.{Call, outcome, first_bit, Accepts, verdict_of, acce
 use Rattle.past.specs.Sound.{sound_state_in_range}
 use Rattle.claims.specs.Widths.{aligned_after_the_bits}
 use Rattle.claims.specs.Lister.{line_at}
+use Rattle.refusal.specs.declared.Refusal.{Refusal}
+use Rattle.header.specs.declared.Accepted.{Accepted}
 
 -- where an accepted header ends
 abbrev OnByte : Header → Reader → Type 0
-OnByte (Accepted f n) r = r.at.0 % 8 ≡ 0
-OnByte (HeaderRefused n) r = Unit
+OnByte (Ok x) r = r.at.0 % 8 ≡ 0
+OnByte (Err n) r = Unit
 
 -- ---- a field moves by its width where its bits remain, and else stays at 0
 
@@ -110,8 +107,8 @@ module _ (s : List ℕ) (short : length s ≤ longest_stream) where
       → ((r.at.0 % 8 ≡ 2) × (r.at.0 + 6 ≤ 8 * length s)) ⊎ (r.at.0 ≡ 8 * length s)
       → Ends (run (cond (eqb (after_mode_of known b f mode) 0)
       (bound_of mode check >>= λ bound.
-      done (Accepted (record { reading = known.reading; samplerate = f; bitrate = b; mode = mode; bound = bound }) (size_of b f p check)))
-      (done (HeaderRefused (after_mode_of known b f mode)))) s r)
+      done (Ok (accepted_header (record { reading = known.reading; samplerate = f; bitrate = b; mode = mode; bound = bound }) (size_of b f p check))))
+      (done (Err (after_mode_of known b f mode)))) s r)
   unfolding run
   mode_ends known check b f p mode r place =
       by_test (λ (x : Reads Header). Ends (run x s r)) (eqb (after_mode_of known b f mode) 0) _ _ (λ _. bound_ends mode check _ r (λ _ _ z. z) place) (λ _. tt)
@@ -127,7 +124,7 @@ module _ (s : List ℕ) (short : length s ≤ longest_stream) where
       (λ k. mode_ends known check b f p 0 (reader_at (r.at.0 + 1)) (inr (omega arith))))
       (λ m. absurd (omega arith))
 
-  refused_ends : (n : ℕ) (r : Reader) → Ends (run (done (HeaderRefused n)) s r)
+  refused_ends : (n : ℕ) (r : Reader) → Ends (run (done (Err n)) s r)
   unfolding run
   refused_ends n r = tt
 
@@ -220,9 +217,9 @@ unfolding attempt_of
 attempt_stands s short a near none =
     let t = header_of s a.reader a.format in go _ t.header t.next (header_on_byte s short a.reader a.format near)
   where
-    go : (k : ℕ) (h : Header) (r : Reader) → OnByte h r → Stands (seeking k a r h).state
-    go k (Accepted f n) r e = λ _. e
-    go k (HeaderRefused n) r e = λ some. absurd (some none)
+    go : (k : ℕ) (h : Result Accepted Refusal) (r : Reader) → OnByte h r → Stands (seeking k a r h).state
+    go k (Ok x) r e = λ _. e
+    go k (Err n) r e = λ some. absurd (some none)
 
 module _ {s : List ℕ} {a : Audio} (w : Ranged a) (h : Stands a) where
   heads_stand : {k : ℕ} {b : Audio} → length s ≤ longest_stream → Heads s a k b → Stands b
@@ -243,8 +240,8 @@ decode_stands s m o a w h = go r.answer refl
     r = ready_of s (length m) (length o) a
 
     go : (y : Heading) → r.answer ≡ y → Stands (answering s r.skipped y r.state).state
-    go Known e = λ some. absurd (some refl)
-    go (Refused n) e = verdict_stands w h (verdict_holds s (length m) (length o) a)
+    go (Ok _) e = λ some. absurd (some refl)
+    go (Err n) e = verdict_stands w h (verdict_holds s (length m) (length o) a)
 
 fresh_stands : (c : Reading) → Stands (fresh c)
 unfolding fresh

@@ -2,7 +2,7 @@
 -- pair starts there. An FF stands at that byte; with 2 the stream ends there; with 1 nothing was passed over. An accepted header is the
 -- standard's, at that byte.
 -- Assumes nothing.
-use Rattle.std.specs.Prelude.{ℕ, ◌+◌, ◌≤◌, ◌≡◌, true, List, Float, length}
+use Rattle.std.specs.Prelude.{ℕ, ◌+◌, ◌≤◌, ◌≡◌, true, List, Float, length, Result, Ok, Err}
 use Rattle.std.proofs.Math.Path.{refl}
 use Rattle.std.proofs.Common.{sym, ap, subst, inl, inr, arith}
 use Rattle.ground.specs.Rows.{never}
@@ -14,23 +14,19 @@ use Rattle.header.specs.Header.{header_of}
 use Rattle.header.specs.Attempts.{Attempts, attempt_table}
 use Rattle.header.specs.Passed.{Passed, attempt_passed, sync_within}
 use Rattle.header.specs.declared.Attempt.{Attempt}
-use Rattle.header.specs.declared.Header.{Header}
-use Rattle.header.specs.declared.Header.TheVariants.{Accepted, Refused as HeaderRefused}
 use Rattle.readings.specs.declared.Reading.{Reading}
 use Rattle.alike.specs.Headers.{StandardsHeader, an_accepted_header}
 use Rattle.state.specs.State.{fresh, in_range}
 use Rattle.state.specs.StateLaws.{ranged}
 use Rattle.state.specs.declared.Audio.{Audio}
-use Rattle.verdict.specs.Verdict.{asked, seeking, attempt_of}
+use Rattle.verdict.specs.Verdict.{asked, seeking, attempt_of, Asked}
 use Rattle.verdict.specs.VerdictLaws.{seeking_skips, not_known}
-use Rattle.verdict.specs.declared.Asked.{Asked}
-use Rattle.verdict.specs.declared.Heading.TheVariants.{Known}
-use Rattle.audio.specs.Calls.{after_of, framed_of, decode_of, format_of, open_of}
+use Rattle.audio.specs.Calls.{after_of, framed_of, decode_of, format_of, open_of, Replied, Decoded}
 use Rattle.audio.specs.Numbers.{heading_number, reply_number, answer_number}
-use Rattle.audio.specs.declared.Decoded.{Decoded}
-use Rattle.audio.specs.declared.Replied.{Replied}
 use Rattle.past.specs.Sound.{fresh_in_range}
 use Rattle.claims.specs.Numbers.{InOrder, passed, Pending, waits, accepts, Decodes, eight, nine, ten, sought, seven, zero, decode_table, Asks, question_table, Opens, open_table}
+use Rattle.refusal.specs.declared.Refusal.{Refusal}
+use Rattle.header.specs.declared.Accepted.{Accepted}
 
 -- the byte to which so many bytes lead, from the aligned start of an attempt
 abbrev pub to : Audio → ℕ → ℕ
@@ -125,17 +121,17 @@ opening_passes c s memory short long = by (open_table c s memory).holds
 -- ---- an accepted header is the standard's, and stands at that byte
 
 pub passed_up_to_the_standards_header : (s : List ℕ) (a : Audio) → length s ≤ longest_stream → in_range a ≡ true → {k : ℕ} {b : Audio}
-    → attempt_of s a ≡ asked k Known b → StandardsHeader s a.reader b.format b.pending (to a k) b.reader
+    → attempt_of s a ≡ asked k (Ok tt) b → StandardsHeader s a.reader b.format b.pending (to a k) b.reader
 unfolding attempt_of
 passed_up_to_the_standards_header s a short within {k} {b} e = by t.header refl e
   where
     t : Attempt
     t = header_of s a.reader a.format
 
-    by : (h : Header) → t.header ≡ h → seeking (passed a t.sync) a t.next h ≡ asked k Known b
+    by : (h : Result Accepted Refusal) → t.header ≡ h → seeking (passed a t.sync) a t.next h ≡ asked k (Ok tt) b
         → StandardsHeader s a.reader b.format b.pending (to a k) b.reader
-    by (HeaderRefused n) is e = absurd (not_known (ap (λ (x : Asked). x.answer) e))
-    by (Accepted f size) is e =
+    by (Err n) is e = absurd (not_known (ap (λ (x : Asked). x.answer) e))
+    by (Ok x) is e =
         subst (λ (x : Asked). StandardsHeader s a.reader x.state.format x.state.pending (to a x.skipped) x.state.reader) e
         (subst (λ (n : ℕ). StandardsHeader s a.reader f size n t.next)
         (leads s a short within (attempt_table s a.reader short (ranged a within).near a.format).holds)

@@ -1,7 +1,7 @@
 -- What was promised, sentence by sentence: a record for each of the person's three demands, a field for each sentence, filled by a
 -- theorem (demands 1 and 3 in proofs/Promises). The definitions that a field names are those that the contracts of the code cite.
 -- docs/CLAIMS.md goes by it.
-use Rattle.std.specs.Prelude.{ℕ, ◌+◌, ◌*◌, ◌%◌, ◌≤◌, ◌<◌, ◌≡◌, true, false, List, ℤ, pos, Float, length, get_or}
+use Rattle.std.specs.Prelude.{ℕ, ◌+◌, ◌*◌, ◌%◌, ◌≤◌, ◌<◌, ◌≡◌, true, false, List, ℤ, pos, Float, length, get_or, Ok}
 use Rattle.std.specs.Float.{fin, nan}
 use Rattle.ground.specs.Rows.{TableOf}
 use Rattle.synthesis.specs.Slots.{memory_length}
@@ -9,19 +9,15 @@ use Rattle.buffer.specs.Bits.{longest_stream, farthest_bit}
 use Rattle.buffer.specs.Calls.{reader_at, byte_at}
 use Rattle.buffer.specs.declared.Reader.{Reader}
 use Rattle.readings.specs.Readings.{strict}
-use Rattle.header.specs.Header.{refusal, header_of}
+use Rattle.header.specs.Header.{refusal, header_of, accepted_header}
 use Rattle.header.specs.declared.Format.{Format}
-use Rattle.header.specs.declared.Header.TheVariants.{Accepted}
 use Rattle.readings.specs.declared.Reading.{Reading}
 use Rattle.clock.specs.Clock.{start_time_of}
 use Rattle.state.specs.State.{in_range}
 use Rattle.state.specs.declared.Audio.{Audio}
-use Rattle.verdict.specs.declared.Asked.{Asked}
-use Rattle.audio.specs.Calls.{open_of, open_memory, format_of, decode_of}
+use Rattle.audio.specs.Calls.{open_of, open_memory, format_of, decode_of, Replied, Decoded}
 use Rattle.audio.specs.Numbers.{heading_number, reply_number, answer_number, ends}
 use Rattle.audio.specs.declared.Answer.TheVariants.{Refused}
-use Rattle.audio.specs.declared.Decoded.{Decoded}
-use Rattle.audio.specs.declared.Replied.{Replied}
 use Rattle.tables.specs.Standard.{Table, steps_of}
 use Rattle.tables.specs.Differences.{differs_at}
 use Rattle.standard.specs.Header.{HeaderFields, bitrate_index, mode_bits, permitted, allocation_table}
@@ -39,6 +35,10 @@ use Rattle.claims.specs.Standard.{reading_over, ReadAs, unlisted_reads_the_same,
 use Rattle.claims.specs.Widths.{bits_are_the_movement, bits_are_the_widths}
 use Rattle.ringout.specs.RingOut.{Agreeing, Together}
 use Rattle.claims.specs.Sharp.{TellsApart}
+use Rattle.verdict.specs.Verdict.{Asked}
+use Rattle.refusal.specs.declared.Refusal.{Refusal}
+use Rattle.header.specs.declared.Accepted.{Accepted}
+use Rattle.refusal.specs.declared.Refusal.TheVariants.{BarredRate}
 
 pub record Demand1 : Type 0 where
   -- "Every stream, buffer and saved state gets a definite answer and the call ends." "Each refusal has its number."
@@ -69,13 +69,13 @@ pub record Demand2 : Type 0 where
   -- .. 02, E3: "in the strict one demand 2 is over the standard's pairs": one with another pair is refused with 13, behind its mode ..
   pub another_pair_is_13 : (s : List ℕ) → ((j : ℕ) → get_or s j 0 < 256) → (r : Reader) (byte : ℕ) → Reaches s r byte → length s ≤ longest_stream
       → 8 * byte + 48 ≤ 8 * length s → HeaderFields s byte → (known : Format) → strict known.reading ≡ true
-      → permitted (mode_bits s byte) (bitrate_index s byte) ≡ false → header_of s r known ≡ refusal 13 (byte_at byte) (reader_at (byte * 8 + 26))
+      → permitted (mode_bits s byte) (bitrate_index s byte) ≡ false → header_of s r known ≡ refusal BarredRate (byte_at byte) (reader_at (byte * 8 + 26))
   -- .. so no frame is accepted with one, whatever the calls since a strict opening ..
   pub only_the_standards_pairs : {c : Call} (past : Past c.state c.memory) → strict (reading_of past) ≡ true → Accepts c
       → let f = (frame_state c).format in permitted f.mode (f.bitrate + 1) ≡ true
   -- .. and an accepted one, where its bits are there, is one of the standard's
   pub only_the_standards_headers : (s : List ℕ) (r : Reader) → length s ≤ longest_stream → (known : Format) → r.at.0 ≤ farthest_bit
-      → {f : Format} {size : ℕ} → (header_of s r known).header ≡ Accepted f size
+      → {f : Format} {size : ℕ} → (header_of s r known).header ≡ Ok (accepted_header f size)
       → StandardsHeader s r f size (header_of s r known).sync.0 (header_of s r known).next
   -- "allocation, scale factors and sample codes are proved against a definition written from ISO/IEC 11172-3 Layer II;": every accepted
   -- frame is read as the standard lists it, over its tables with the listed entry replaced ..

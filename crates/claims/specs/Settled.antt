@@ -10,14 +10,13 @@ use Rattle.buffer.specs.Calls.{byte_after_of, left}
 use Rattle.state.specs.State.{in_range}
 use Rattle.state.specs.StateLaws.{ranged}
 use Rattle.verdict.specs.Verdict.{tried, attempt_of}
-use Rattle.audio.specs.Calls.{decode_of, format_of}
+use Rattle.audio.specs.Calls.{decode_of, format_of, Decoded}
 use Rattle.audio.specs.CallsLaws.{question_leaves}
 use Rattle.audio.specs.Numbers.{answer_number, ends, callers_mistake}
 use Rattle.std.proofs.lemmas.Bool.{eqb-false}
 use Rattle.ground.specs.Tests.{either, neither}
 use Rattle.ground.specs.Rows.{never, is_false}
 use Rattle.state.specs.declared.Audio.{Audio}
-use Rattle.audio.specs.declared.Decoded.{Decoded}
 use Rattle.ground.specs.Rows.{exactly}
 use Rattle.header.specs.Attempts.{one, attempt_gives, attempt_number}
 use Rattle.header.specs.Moves.{few_bits_stay}

@@ -33,7 +33,6 @@ use Rattle.synthesis.specs.Wash.{washed}
 use Rattle.frame.specs.Frame.{codes_in, granules_at, slots_of}
 use Rattle.state.specs.State.{fresh}
 use Rattle.state.specs.declared.Audio.{Audio}
-use Rattle.verdict.specs.declared.Asked.{Asked}
 use Rattle.past.specs.Pasts.{Past}
 use Rattle.past.specs.Calls.{Call, new_output, sample, granules_in, known_accepted, accepted_leaves}
 use Rattle.past.specs.Finite.{BitForBit}
@@ -41,6 +40,7 @@ use Rattle.past.specs.Ring.{ring_in_place, memory_kept_long}
 use Rattle.claims.specs.Clips.{knocking, silent, behind, silence, knock, mono, headed, headed_two, headed_three, Course, courses, first, second, third, past_one, past_two, opened_at, before_first, state_one, before_second, before_third}
 use Rattle.ringout.specs.RingOut.{Agreeing, agree_on, Together, begin}
 use Rattle.ringout.proofs.RingOut.{rings_out, every_later_sample}
+use Rattle.verdict.specs.Verdict.{Asked}
 
 -- ---- sample 480 of the second frame
 

@@ -3,7 +3,7 @@
 -- same bit, over its tables with the one listed entry replaced. Where all calls since opening were on one stream, the frame's header is a
 -- header of the standard at a byte of it, and the reading begins where the standard says. In the strict reading (02, E3) its pair of bit rate
 -- and mode is one that the standard has. Assumes nothing.
-use Rattle.std.specs.Prelude.{ℕ, ◌+◌, ◌-◌, ◌*◌, ◌≤◌, ◌<◌, ◌≡◌, refl, true, List, eqb, Float, ℤ, length, get_or}
+use Rattle.std.specs.Prelude.{ℕ, ◌+◌, ◌-◌, ◌*◌, ◌≤◌, ◌<◌, ◌≡◌, refl, true, List, eqb, Float, ℤ, length, get_or, Result, Ok, Err}
 use Rattle.std.proofs.Common.{sym, ap, subst, ◌∙◌, arith}
 use Rattle.buffer.specs.Bits.{longest_stream, farthest_bit}
 use Rattle.buffer.specs.Calls.{reader_at}
@@ -13,11 +13,9 @@ use Rattle.grammar.specs.Reads.{Taken, run}
 use Rattle.tables.specs.Standard.{steps_of, limit_of, sblimit}
 use Rattle.tables.specs.Differences.{table_of}
 use Rattle.readings.specs.Readings.{strict}
-use Rattle.header.specs.Header.{header_of}
+use Rattle.header.specs.Header.{header_of, accepted_header}
 use Rattle.header.specs.declared.Attempt.{Attempt}
 use Rattle.header.specs.declared.Format.{Format}
-use Rattle.header.specs.declared.Header.{Header}
-use Rattle.header.specs.declared.Header.TheVariants.{Accepted, Refused as HeaderRefused}
 use Rattle.side.specs.Side.{cut_of}
 use Rattle.standard.specs.Header.{HeaderFields, bitrate_index, sampling_frequency, mode_bits, mode_extension, bound, allocation_table, permitted, frame_size, data_bit}
 use Rattle.standard.specs.AudioData.{Steps, AudioFields, audio_data_over}
@@ -33,17 +31,16 @@ use Rattle.frame.specs.Frame.{codes_in, granules_at}
 use Rattle.state.specs.State.{fresh, in_range}
 use Rattle.state.specs.StateLaws.{ranged, fresh_ranged}
 use Rattle.state.specs.declared.Audio.{Audio}
-use Rattle.verdict.specs.Verdict.{seeking, attempt_of}
+use Rattle.verdict.specs.Verdict.{seeking, attempt_of, Heading, Asked}
 use Rattle.verdict.specs.VerdictLaws.{waits, accepts, Verdict, at_once, no_header, cut_off, whole, verdict_kept}
-use Rattle.verdict.specs.declared.Asked.{Asked}
-use Rattle.verdict.specs.declared.Heading.{Heading}
-use Rattle.verdict.specs.declared.Heading.TheVariants.{Known, Refused}
 use Rattle.audio.specs.Calls.{answering, after_of, framed_of, decode_of, open_of, format_of}
 use Rattle.audio.specs.CallsLaws.{question_leaves, by_opening}
 use Rattle.past.specs.Pasts.{Past, opened, asked as has_asked, decoded, refused, relent}
 use Rattle.past.specs.Calls.{Call, outcome, frame_state, before, granules_in, end_of, Accepts, accepted_known, accepted_leaves, verdict_of}
 use Rattle.past.specs.Sound.{sound_state_in_range, sound, frame_has_extension, reading_of, the_reading_stays}
 use Rattle.claims.specs.Numbers.{passed}
+use Rattle.refusal.specs.declared.Refusal.{Refusal}
+use Rattle.header.specs.declared.Accepted.{Accepted}
 
 -- ---- a frame by its header's mode, mode_extension, bitrate_index and sampling_frequency
 
@@ -144,7 +141,7 @@ record Headed (s : List ℕ) (a : Audio) : Type 0 where
   known : Format
   near : from.at.0 ≤ farthest_bit
   sync : BytePos
-  is : header_of s from known ≡ record { header = Accepted a.format a.pending; sync = sync; next = a.reader }
+  is : header_of s from known ≡ record { header = Ok (accepted_header a.format a.pending); sync = sync; next = a.reader }
 
 Pending : List ℕ → Audio → Type 0
 Pending s a = (a.pending ≡ 0 → ⊥) → Headed s a
@@ -153,10 +150,10 @@ attempt_headed : (s : List ℕ) (a : Audio) → a.reader.at.0 ≤ farthest_bit �
 unfolding attempt_of Pending
 attempt_headed s a near none = let t = header_of s a.reader a.format in go t.sync t.header t.next refl
   where
-    go : (b : BytePos) (h : Header) (r : Reader) → header_of s a.reader a.format ≡ record { header = h; sync = b; next = r }
+    go : (b : BytePos) (h : Result Accepted Refusal) (r : Reader) → header_of s a.reader a.format ≡ record { header = h; sync = b; next = r }
         → Pending s (seeking (passed a b) a r h).state
-    go b (Accepted f n) r e = λ _. record { from = a.reader; known = a.format; near = near; sync = b; is = e }
-    go b (HeaderRefused n) r e = λ some. absurd (some none)
+    go b (Ok x) r e = λ _. record { from = a.reader; known = a.format; near = near; sync = b; is = e }
+    go b (Err n) r e = λ some. absurd (some none)
 
 verdict_headed : {s : List ℕ} {m o : ℕ} {a : Audio} {x : Asked} → a.reader.at.0 ≤ farthest_bit → Pending s a → Verdict s m o a x → Pending s x.state
 verdict_headed near p (at_once h) = p
@@ -171,8 +168,8 @@ unfolding decode_of framed_of after_of Pending
 decode_headed c near p = go (before c).answer (verdict_headed near p (verdict_of c))
   where
     go : (h : Heading) → Pending c.stream (frame_state c) → Pending c.stream (answering c.stream (before c).skipped h (frame_state c)).state
-    go Known w = λ some. absurd (some refl)
-    go (Refused n) w = w
+    go (Ok _) w = λ some. absurd (some refl)
+    go (Err n) w = w
 
 call_headed : {s : List ℕ} (c : Call) → c.stream ≡ s → in_range c.state ≡ true → Pending s c.state → Pending s (outcome c).state
 call_headed c e r p =

@@ -1,6 +1,6 @@
 -- 01's example of a listing, for FF FD A0 00 and 622 zero bytes: its three lines, and their text, without words and with them. 02, E2:
 -- they "end with 0, 598 and 0". No sample is computed: the lines go by headers and bits. Assumes nothing.
-use Rattle.std.specs.Prelude.{ℕ, ◌+◌, ◌-◌, ◌≤◌, ◌≡◌, refl, Float, length}
+use Rattle.std.specs.Prelude.{ℕ, ◌+◌, ◌-◌, ◌≤◌, ◌≡◌, refl, Float, length, Ok, Err}
 use Rattle.std.proofs.Common.{sym, ◌∙◌, arith, lit<, lit≤}
 use Rattle.std.proofs.Math.Path.{ap}
 use mathlib.Core.List.{List, [], ◌∷◌, ◌++◌, map, flat_map}
@@ -20,12 +20,9 @@ use Rattle.codes.specs.Rows.{zeros}
 use Rattle.frame.specs.Frame.{cut_format}
 use Rattle.state.specs.State.{fresh, stands_at}
 use Rattle.state.specs.declared.Audio.{Audio}
-use Rattle.verdict.specs.Verdict.{asked, tried, attempt_of}
+use Rattle.verdict.specs.Verdict.{asked, tried, attempt_of, Asked}
 use Rattle.verdict.specs.VerdictLaws.{no_header, verdict_only}
-use Rattle.verdict.specs.declared.Asked.{Asked}
-use Rattle.verdict.specs.declared.Heading.TheVariants.{Known, Refused}
-use Rattle.audio.specs.Calls.{open_of, answering, after_of, framed_of, decode_of}
-use Rattle.audio.specs.declared.Decoded.{Decoded}
+use Rattle.audio.specs.Calls.{open_of, answering, after_of, framed_of, decode_of, Decoded}
 use Rattle.audio.specs.declared.Answer.{Answer}
 use Rattle.audio.specs.declared.Answer.TheVariants.{Frame}
 use Rattle.listing.specs.declared.Behind.TheVariants.{Nothing, Words}
@@ -42,6 +39,8 @@ use Rattle.claims.specs.Numbers.{passed, refused}
 use Rattle.claims.specs.Widths.{aligned_after_the_bits}
 use Rattle.claims.specs.Example.{headed, opened_to_header, before_zeros, zeros_accepted, begins_at_32, zeros_use_188_bits}
 use Rattle.claims.specs.Lister.{line_at, lines_from, one_line, last_line, text_of, listing_is_its_lines, worded_of, worded_is_its_lines}
+use Rattle.refusal.specs.declared.Refusal.{Refusal}
+use Rattle.refusal.specs.declared.Refusal.TheVariants.{NoSync}
 
 -- ---- a call that is refused as it seeks a header
 
@@ -50,7 +49,7 @@ module _ (c : Call) (n : ℕ) (sync : BytePos) (r : Reader) (b : Begun c) (none 
   refused_so : outcome c ≡ refused (passed c.state sync) n (stands_at r c.state)
   unfolding decode_of attempt_of
   refused_so =
-      let sought : attempt_of c.stream c.state ≡ asked (passed c.state sync) (Refused n) (stands_at r c.state) =
+      let sought : attempt_of c.stream c.state ≡ asked (passed c.state sync) (Err n) (stands_at r c.state) =
       ap (tried c.state) (e c.state.format) in
       let before = verdict_only c.stream (length c.memory) (length c.output) c.state (no_header b none sought) in
       ap (λ (x : Asked). answering c.stream x.skipped x.answer x.state) (sym before)
@@ -58,7 +57,7 @@ module _ (c : Call) (n : ℕ) (sync : BytePos) (r : Reader) (b : Begun c) (none 
 -- ---- the three calls
 
 -- behind the frame there are zeros to the end, 626 bytes from the stream's start
-zeros_no_sync : (known : Format) → header_of zeros (reader_at 224) known ≡ refusal 2 (byte_at 626) (reader_at 5016)
+zeros_no_sync : (known : Format) → header_of zeros (reader_at 224) known ≡ refusal NoSync (byte_at 626) (reader_at 5016)
 unfolding header_of start_of sync_of seek_of search_of has_of skip_bytes_of field_of read_of bits_value bit_at first_from
 zeros_no_sync known = refl
 
@@ -78,7 +77,7 @@ accepted = zeros_accepted (quiet memory_length) (quiet output_length) memory_lon
 bits_188 : accepted.bits ≡ 188
 bits_188 = zeros_use_188_bits (quiet memory_length) (quiet output_length) memory_long output_long
 
-opened_so : open_of plain zeros (quiet memory_length) ≡ asked 0 Known headed
+opened_so : open_of plain zeros (quiet memory_length) ≡ asked 0 (Ok tt) headed
 opened_so = opened_to_header (quiet memory_length) (quiet output_length) memory_long output_long
 
 framed : outcome first ≡ framed_of zeros 0 headed

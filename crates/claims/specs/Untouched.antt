@@ -1,6 +1,6 @@
 -- Demand 1: "A refused call leaves the samples untouched, and the synthesis memory too, but that an opening which only found no
 -- good header still clears the memory." And 01: longer memories keep the rest. Assumes nothing.
-use Rattle.std.specs.Prelude.{ℕ, ◌+◌, ◌≤◌, ◌<◌, refl, List, [], ◌++◌, pos, Float, length, get_or, drop}
+use Rattle.std.specs.Prelude.{ℕ, ◌+◌, ◌≤◌, ◌<◌, refl, List, [], ◌++◌, pos, Float, length, get_or, drop, Ok, Err}
 use Rattle.std.proofs.Math.Path.{◌≡◌}
 use Rattle.std.proofs.Common.{sym, ap, ◌∙◌, inr, arith, get_or-append-add, get_or-drop}
 use Rattle.std.proofs.Math.Bool.{false}
@@ -14,21 +14,20 @@ use Rattle.synthesis.specs.Memory.{memory_with}
 use Rattle.synthesis.specs.Output.{output_other}
 use Rattle.buffer.specs.Bits.{longest_stream}
 use Rattle.audio.specs.CallsLaws.{blank_length}
-use Rattle.verdict.specs.Verdict.{ready_of}
+use Rattle.verdict.specs.Verdict.{ready_of, Heading}
 use Rattle.audio.specs.Calls.{answering, remembering, sounding, after_of, framed_of, decode_of, decode_memory, decode_output, blank, open_memory, no_room_of}
 use Rattle.state.specs.declared.Audio.{Audio}
-use Rattle.verdict.specs.declared.Heading.{Heading}
-use Rattle.verdict.specs.declared.Heading.TheVariants.{Known, Refused}
 use Rattle.audio.specs.declared.Answer.TheVariants.{Refused as AnswerRefused}
 use Rattle.past.specs.Calls.{Call, new_memory, new_output, before, before_keeps, known_leaves}
+use Rattle.refusal.specs.declared.Refusal.{Refusal}
 
 -- every number but a decoded frame's 0 leaves memory and output as they were
 module _ (s : List ℕ) (memory output : List Float) (a : Audio) where
   by_verdict : (k : ℕ) (h : Heading) (b : Audio) (n : ℕ) → (answering s k h b).answer ≡ AnswerRefused n
       → (remembering s memory h b ≡ memory) × (sounding s memory output h b ≡ output)
   unfolding framed_of after_of
-  by_verdict k Known b n e = absurd (let z : ◌≡◌ {A = ℕ} 0 1 = cc in omega arith)
-  by_verdict k (Refused m) b n e = (refl, refl)
+  by_verdict k (Ok _) b n e = absurd (let z : ◌≡◌ {A = ℕ} 0 1 = cc in omega arith)
+  by_verdict k (Err m) b n e = (refl, refl)
 
   pub refused_call_leaves_all : (n : ℕ) → (decode_of s memory output a).answer ≡ AnswerRefused n
       → (decode_memory s memory output a ≡ memory) × (decode_output s memory output a ≡ output)
@@ -44,7 +43,7 @@ the_rest_stays c i = go (before c).answer refl
   where
     go : (h : Heading) → (before c).answer ≡ h → (get_or (new_memory c) (memory_length + i) nan ≡ get_or c.memory (memory_length + i) nan)
         × (get_or (new_output c) (output_length + i) nan ≡ get_or c.output (output_length + i) nan)
-    go Known e =
+    go (Ok _) e =
         let d = known_leaves c e in
         let place : Place c.state.ring = rw (← (before_keeps c).ring) d.goes.ready.place in
         let behind : drop memory_length (new_memory c) ≡ drop memory_length c.memory =
@@ -55,7 +54,7 @@ the_rest_stays c i = go (before c).answer refl
           ap (λ (o : List Float). get_or o (output_length + i) nan) d.output
               ∙ output_other _ _ c.memory c.output 0 36 (output_length + i) (inr (omega arith)),
         )
-    go (Refused n) e = (rw e refl, rw e refl)
+    go (Err n) e = (rw e refl, rw e refl)
 
 -- an opening that gives 8 or 9 leaves the memory
 module _ (s : List ℕ) (memory : List Float) where

@@ -18,8 +18,7 @@ use Rattle.side.specs.Side.{cut_of, allocations_of, selectors_of, scale_factors_
 use Rattle.codes.specs.Frame.{granules_of, frame_of}
 use Rattle.codes.specs.Widths.{frame_narrow}
 use Rattle.frame.specs.Frame.{limit_in, codes_in, granules_at}
-use Rattle.audio.specs.Calls.{aligned_of, after_of, framed_of}
-use Rattle.audio.specs.declared.Decoded.{Decoded}
+use Rattle.audio.specs.Calls.{aligned_of, after_of, framed_of, Decoded}
 use Rattle.past.specs.Calls.{Call, outcome, frame_state, Accepts, end_of, first_bit, bits_called, accepted_leaves, accepted_bits}
 
 codes_narrow : (f : Format) → Narrow (codes_in f)

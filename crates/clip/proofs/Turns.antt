@@ -9,18 +9,17 @@ use lib.Ieee.{Float}
 use lib.ListN.{length}
 use Rattle.tables.specs.Standard.{rate_of}
 use Rattle.frame.specs.Frame.{cut_format}
-use Rattle.verdict.specs.Verdict.{ready_of}
-use Rattle.audio.specs.Calls.{after_of, framed_of, answering, decode_of, decode_memory, decode_output}
+use Rattle.verdict.specs.Verdict.{ready_of, Heading, Asked}
+use Rattle.audio.specs.Calls.{after_of, framed_of, answering, decode_of, decode_memory, decode_output, Decoded}
 use Rattle.audio.specs.CallsLaws.{goes}
 use Rattle.audio.specs.Numbers.{ends}
-use Rattle.verdict.specs.declared.Asked.{Asked}
+use Rattle.refusal.specs.Numbers.{number_of}
 use Rattle.state.specs.declared.Audio.{Audio}
 use Rattle.audio.specs.declared.Answer.{Answer}
 use Rattle.audio.specs.declared.Answer.TheVariants.{Frame, Refused}
-use Rattle.audio.specs.declared.Decoded.{Decoded}
-use Rattle.verdict.specs.declared.Heading.{Heading}
-use Rattle.verdict.specs.declared.Heading.TheVariants.{Known, Refused as HeadingRefused}
 use Rattle.clip.specs.Frames.{Turn, turn, turning, turn_of}
+use Rattle.refusal.specs.declared.Refusal.{Refusal}
+use Rattle.std.specs.Prelude.{Ok, Err}
 
 -- a frame is given only at a known sample rate
 pub frame_rate : (s : List ℕ) (memory output : List Float) (a : Audio) (x : Decoded) (time : Float) (bits : ℕ) → x ≡ decode_of s memory output a
@@ -33,8 +32,8 @@ frame_rate s memory output a x time bits e h = rw e (go before.answer refl (ap (
 
     go : (known : Heading) → before.answer ≡ known → (answering s before.skipped known before.state).answer ≡ Frame time bits
         → (answering s before.skipped known before.state).state.format.samplerate < 4
-    go Known k f = let l = (goes s (length memory) (length output) a before refl k).ready.fit.samplerate in omega arith
-    go (HeadingRefused n) k f = absurd (let z : ◌≡◌ {A = ℕ} 0 1 = cc in omega arith)
+    go (Ok _) k f = let l = (goes s (length memory) (length output) a before refl k).ready.fit.samplerate in omega arith
+    go (Err n) k f = absurd (let z : ◌≡◌ {A = ℕ} 0 1 = cc in omega arith)
 
 turns : (s : List ℕ) (memory output : List Float) (a : Audio) (calls : ℕ) → 0 < calls → (x : Decoded) (m o : List Float)
     → x ≡ decode_of s memory output a → m ≡ decode_memory s memory output a → o ≡ decode_output s memory output a → (answer : Answer) → x.answer ≡ answer
@@ -49,11 +48,11 @@ module _ (s : List ℕ) (memory output : List Float) (a : Audio) (calls : ℕ) (
       → turn true rate x.state (calls - 1) m o ≡ turn_of calls s memory output a
   frame_found time bits rate h r = rw r (turns s memory output a calls some x m o e f g (Frame time bits) h)
 
-  pub end_found : (n : ℕ) (last : Bool) → x.answer ≡ Refused n → last ≡ ends n → last ≡ true
+  pub end_found : (n : Refusal) (last : Bool) → x.answer ≡ Refused n → last ≡ ends (number_of n) → last ≡ true
       → turn false 0 x.state (calls - 1) m o ≡ turn_of calls s memory output a
   end_found n last h r t = rw (sym r ∙ t) at (turns s memory output a calls some x m o e f g (Refused n) h)
 
-  pub goes_past : (n : ℕ) (last : Bool) → x.answer ≡ Refused n → last ≡ ends n → last ≡ false
+  pub goes_past : (n : Refusal) (last : Bool) → x.answer ≡ Refused n → last ≡ ends (number_of n) → last ≡ false
       → turn_of (calls - 1) s m o x.state ≡ turn_of calls s memory output a
   goes_past n last h r t = rw (sym r ∙ t) at (turns s memory output a calls some x m o e f g (Refused n) h)
 

@@ -6,6 +6,7 @@ use Rattle.readings.specs.Readings.{plain}
 use Rattle.tables.specs.Standard.{rate_of}
 use Rattle.audio.specs.Calls.{open_of, open_memory, decode_of, decode_memory, decode_output}
 use Rattle.audio.specs.Numbers.{ends}
+use Rattle.refusal.specs.Numbers.{number_of}
 use Rattle.state.specs.declared.Audio.{Audio}
 use Rattle.audio.specs.declared.Answer.{Answer}
 use Rattle.audio.specs.declared.Answer.TheVariants.{Frame, Refused}
@@ -21,7 +22,7 @@ pub record Heard : Type 0 where
 -- what a call adds, by its answer and the state after it: a refusal other than 1 and 7 is no end, and nothing is heard of it
 abbrev pub hearing : Answer → Audio → List Float → List Heard → List Heard
 hearing (Frame time bits) a samples more = record { rate = rate_of a.format.samplerate; samples = samples } ∷ more
-hearing (Refused n) a samples more = cond (ends n) [] more
+hearing (Refused n) a samples more = cond (ends (number_of n)) [] more
 
 -- the frames of at most so many calls
 unfoldable pub heard_of : ℕ → List ℕ → List Float → List Float → Audio → List Heard
@@ -65,7 +66,7 @@ turn frame rate a calls memory output =
 -- a frame ends a turn, and so does the stream's end
 abbrev pub turning : Answer → Audio → ℕ → List Float → List Float → Turn → Turn
 turning (Frame time bits) a calls memory output more = turn true (rate_of a.format.samplerate) a calls memory output
-turning (Refused n) a calls memory output more = cond (ends n) (turn false 0 a calls memory output) more
+turning (Refused n) a calls memory output more = cond (ends (number_of n)) (turn false 0 a calls memory output) more
 
 -- the calls up to the next frame, or to the end
 unfoldable pub turn_of : ℕ → List ℕ → List Float → List Float → Audio → Turn

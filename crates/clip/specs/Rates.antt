@@ -7,6 +7,7 @@ use Rattle.ground.specs.Entries.{entry}
 use Rattle.tables.specs.Standard.{sampling_rates, rate_of}
 use Rattle.audio.specs.Calls.{decode_of, decode_memory, decode_output}
 use Rattle.audio.specs.Numbers.{ends}
+use Rattle.refusal.specs.Numbers.{number_of}
 use Rattle.state.specs.declared.Audio.{Audio}
 use Rattle.audio.specs.declared.Answer.{Answer}
 use Rattle.audio.specs.declared.Answer.TheVariants.{Frame, Refused}
@@ -17,7 +18,7 @@ rates_in_the_table samplerate = leb→le _ _ (entry (λ rate. leb rate 48000) 0 
 
 small_first : (x : Answer) (a : Audio) (o : List Float) (more : List Heard) → rate_in more ≤ 48000 → rate_in (hearing x a o more) ≤ 48000
 small_first (Frame time bits) a o more h = rates_in_the_table a.format.samplerate
-small_first (Refused n) a o more h = by_test (λ (xs : List Heard). rate_in xs ≤ 48000) (ends n) _ _ (λ _. omega arith) (λ _. h)
+small_first (Refused n) a o more h = by_test (λ (xs : List Heard). rate_in xs ≤ 48000) (ends (number_of n)) _ _ (λ _. omega arith) (λ _. h)
 
 small_rate : (calls : ℕ) (s : List ℕ) (memory output : List Float) (a : Audio) → rate_in (heard_of calls s memory output a) ≤ 48000
 unfolding heard_of

@@ -6,6 +6,7 @@ use Rattle.ground.specs.Tests.{by_test}
 use Rattle.synthesis.specs.Slots.{memory_length, output_length, quiet}
 use Rattle.audio.specs.Calls.{open_memory, decode_of}
 use Rattle.audio.specs.Numbers.{ends}
+use Rattle.refusal.specs.Numbers.{number_of}
 use Rattle.state.specs.declared.Audio.{Audio}
 use Rattle.audio.specs.declared.Answer.{Answer}
 use Rattle.audio.specs.declared.Answer.TheVariants.{Frame, Refused}
@@ -29,7 +30,7 @@ by_answer : (x : Answer) (s : List ℕ) (a : Audio) (calls : ℕ) (m o : List Fl
     → hearing x a o (heard_of calls s m o a) ≡ heard_by s (turning x a calls m o t)
 unfolding heard_by
 by_answer (Frame time bits) s a calls m o t e = refl
-by_answer (Refused n) s a calls m o t e = go (ends n)
+by_answer (Refused n) s a calls m o t e = go (ends (number_of n))
   where
     go : (last : Bool) → cond last [] (heard_of calls s m o a) ≡ heard_by s (cond last (turn false 0 a calls m o) t)
     go true = refl
@@ -51,7 +52,7 @@ heard_next calls s memory output a r m o e f g = turn_by_turn calls s memory out
 one_at_most : (x : Answer) (a : Audio) (o : List Float) (more : List Heard) (calls : ℕ) → length more ≤ calls → length (hearing x a o more) ≤ suc calls
 one_at_most (Frame time bits) a o more calls l = omega arith
 one_at_most (Refused n) a o more calls l =
-    by_test (λ (xs : List Heard). length xs ≤ suc calls) (ends n) _ _ (λ _. omega arith) (λ _. omega arith)
+    by_test (λ (xs : List Heard). length xs ≤ suc calls) (ends (number_of n)) _ _ (λ _. omega arith) (λ _. omega arith)
 
 few : (calls : ℕ) (s : List ℕ) (memory output : List Float) (a : Audio) → length (heard_of calls s memory output a) ≤ calls
 unfolding heard_of

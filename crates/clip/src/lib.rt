@@ -34,8 +34,7 @@ pub fn start(stream: &[u8], memory: &mut [f32]) -> Playing
     ensures value { result ≡ opened_of stream.now memory.old }
     ensures memory_after { memory.new ≡ open_memory stream.now memory.old }
 {
-    let reading = readings::plain();
-    let opened = audio::new(stream, memory, reading);
+    let opened = audio::new(stream, memory, readings::plain());
     let state = opened.state;
     let calls = stream.len() / 2 + 2;
     Playing { state, calls }
@@ -53,18 +52,16 @@ pub fn next(playing: Playing, stream: &[u8], memory: &mut [f32], output: &mut [f
         calls -= 1;
         let decoded = audio::decode(state, stream, memory, output);
         state = decoded.state;
-        let answer = decoded.answer;
-        match answer {
+        match decoded.answer {
             Answer::Frame { .. } => {
-                let format = state.format;
                 return Reached {
                     frame: true,
-                    rate: tables::rate(format.samplerate),
+                    rate: tables::rate(state.format.samplerate),
                     playing: Playing { state, calls },
                 };
             }
-            Answer::Refused(number) => {
-                if audio::ends(number) {
+            Answer::Refused(refusal) => {
+                if audio::ends(refusal.number()) {
                     break;
                 }
             }
@@ -89,8 +86,7 @@ pub fn count(stream: &[u8]) -> Counted
     let mut frames = 0;
     while at.frame {
         frames += 1;
-        let playing = at.playing;
-        at = next(playing, stream, &mut memory, &mut output);
+        at = next(at.playing, stream, &mut memory, &mut output);
     }
     Counted { frames, rate }
 }

@@ -16,7 +16,7 @@ use Rattle.buffer.specs.PairLaws.{no_pair_found}
 use Rattle.buffer.specs.declared.BytePos.{BytePos}
 use Rattle.buffer.specs.declared.Reader.{Reader}
 use Rattle.grammar.specs.Reads.{Reads, done, ◌>>=◌, Taken, taken, run}
-use Rattle.header.specs.Header.{bound_by, size_of, differs, by_search, seek_of, sync_of, start_of, ident_of, by_ident, rates_of, by_rates, mode_of, check_of, bound_of, unless_refused, accepted, rest_of, fields_of, unsynced, attempt, refusal, by_start, header_of, header_number}
+use Rattle.header.specs.Header.{bound_by, size_of, differs, by_search, seek_of, sync_of, start_of, ident_of, by_ident, rates_of, by_rates, mode_of, check_of, bound_of, unless_refused, accepted_header, rest_of, fields_of, unsynced, attempt, refusal, by_start, header_of, header_number}
 use Rattle.header.specs.Accepted.{SameFormat, same_format}
 use Rattle.readings.specs.Pairs.{barred}
 use Rattle.refusal.specs.declared.Refusal.{Refusal}
@@ -152,7 +152,7 @@ pub data Attempts (s : List ℕ) (r : Reader) (known : Format) : ℕ → Attempt
   zero : {b : BytePos} {q : Reader} → 48 ≤ left s r → Synced s r b q → BitrateGiven s q → ((samplerate s q).value ≡ 3 → ⊥)
       → pair_barred s q known.reading ≡ false
       → ((known.samplerate ≡ 3 → ⊥) → SameFormat known (format_by s q known.reading))
-      → Attempts s r known 0 (record { header = Ok (accepted (format_by s q known.reading) (data_size s q)); sync = b; next = after_check s q })
+      → Attempts s r known 0 (record { header = Ok (accepted_header (format_by s q known.reading) (data_size s q)); sync = b; next = after_check s q })
 
 -- ---- the course of the fields: one choice after the other
 
@@ -187,7 +187,7 @@ module _ (s : List ℕ) (q : Reader) (known : Format) where
 
   rest_course : run (rest_of known (checked s q) ((bitrate s q).value - 1) (samplerate s q).value (padding s q).value) s (padding s q).next
       ≡ cond barred_pair (taken (Err BarredRate) (mode s q).next)
-      (cond other (taken (Err OtherFormat) (mode s q).next) (taken (Ok (accepted (format_by s q known.reading) (data_size s q))) (after_check s q)))
+      (cond other (taken (Err OtherFormat) (mode s q).next) (taken (Ok (accepted_header (format_by s q known.reading) (data_size s q))) (after_check s q)))
   unfolding rest_of mode_of bound_of run ◌>>=◌
   rest_course =
       in_turn barred_pair other _ (mode s q).next
@@ -320,7 +320,7 @@ module _ (s : List ℕ) (r : Reader) (short : length s ≤ longest_stream) (near
         ≡ attempt b
         (cond (eqb (samplerate s q).value 3) (taken (Err NoSampleRate) (samplerate s q).next)
         (cond (barred_pair s q known) (taken (Err BarredRate) (mode s q).next)
-        (cond (other s q known) (taken (Err OtherFormat) (mode s q).next) (taken (Ok (accepted (format_by s q known.reading) (data_size s q))) (after_check s q)))))
+        (cond (other s q known) (taken (Err OtherFormat) (mode s q).next) (taken (Ok (accepted_header (format_by s q known.reading) (data_size s q))) (after_check s q)))))
     rated_course {b} {q} room y u =
         layer_course room y u.ident
         ∙ ap (attempt b)

@@ -118,8 +118,8 @@ abbrev pub unless_refused : {A : Type 0} → Option Refusal → Reads (Result A 
 unless_refused (Some e) more = done (Err e)
 unless_refused None more = more
 
-abbrev pub accepted : Format → ℕ → Accepted
-accepted f size = record { format = f; size = size }
+abbrev pub accepted_header : Format → ℕ → Accepted
+accepted_header f size = record { format = f; size = size }
 
 -- without a refusal the header is accepted, with its format and its data size
 unfoldable pub rest_of : Format → Bool → ℕ → ℕ → ℕ → Reads (Result Accepted Refusal)
@@ -128,7 +128,7 @@ rest_of known check bitrate samplerate padding =
     (bound_of mode check >>= λ bound.
     done
     (Ok
-    (accepted (record { reading = known.reading; samplerate = samplerate; bitrate = bitrate; mode = mode; bound = bound })
+    (accepted_header (record { reading = known.reading; samplerate = samplerate; bitrate = bitrate; mode = mode; bound = bound })
     (size_of bitrate samplerate padding check))))
 
 abbrev pub by_rates : Format → Bool → Result Rates Refusal → Reads (Result Accepted Refusal)

@@ -1,21 +1,20 @@
 -- The lines of the lister. From 01, "Table of proved examples" (The lister). Assumes nothing.
-use Rattle.std.specs.Prelude.{ℕ, zero, suc, ◌+◌, ◌-◌, ◌/◌, Bool, true, false, cond, ◌&&◌, ◌||◌, List, [], ◌∷◌, ◌++◌, map, eqb, leb, ltb, Float, length}
+use Rattle.std.specs.Prelude.{ℕ, zero, suc, ◌+◌, ◌-◌, ◌/◌, Bool, true, false, cond, ◌&&◌, ◌||◌, List, [], ◌∷◌, ◌++◌, map, eqb, leb, ltb, Float, length, Ok, Err}
 use Rattle.buffer.specs.Calls.{byte_pos_of, byte_after_of}
 use Rattle.buffer.specs.declared.BytePos.{BytePos}
 use Rattle.synthesis.specs.Slots.{memory_length, output_length, quiet}
 use Rattle.readings.specs.declared.Reading.{Reading}
 use Rattle.tables.specs.Standard.{kbps_of, rate_of}
-use Rattle.verdict.specs.declared.Heading.{Heading}
-use Rattle.verdict.specs.declared.Heading.TheVariants.{Known, Refused as HeadingRefused}
-use Rattle.audio.specs.Calls.{open_of, open_memory, decode_of, decode_memory, decode_output}
+use Rattle.audio.specs.Calls.{open_of, open_memory, decode_of, decode_memory, decode_output, Decoded}
 use Rattle.audio.specs.Numbers.{ends}
 use Rattle.state.specs.declared.Audio.{Audio}
 use Rattle.audio.specs.declared.Answer.{Answer}
 use Rattle.audio.specs.declared.Answer.TheVariants.{Frame, Refused}
-use Rattle.audio.specs.declared.Decoded.{Decoded}
 use Rattle.listing.specs.declared.Line.{Line}
 use Rattle.listing.specs.declared.Line.TheVariants.{Frame as FrameLine, Refused as RefusedLine, End, Long}
 use Rattle.listing.specs.declared.Listed.{Listed}
+use Rattle.verdict.specs.Verdict.{Heading}
+use Rattle.refusal.specs.Numbers.{number_of}
 
 -- "byte position afterwards, rounded down"
 abbrev pub byte_position : Audio → BytePos
@@ -31,7 +30,8 @@ byte_before end bits = record { 0 = end.0 - (byte_after_of (record { 0 = bits })
 abbrev pub line_by : ℕ → ℕ → Answer → Audio → Line
 line_by number skipped (Frame time bits) a =
     FrameLine number (byte_before (byte_position a) bits) (rate_of a.format.samplerate) (kbps_of a.format.bitrate) a.format.mode bits time skipped
-line_by number skipped (Refused n) a = cond (ends n) (End n (byte_position a) skipped) (RefusedLine n (byte_position a) skipped)
+line_by number skipped (Refused n) a =
+    cond (ends (number_of n)) (End (number_of n) (byte_position a) skipped) (RefusedLine (number_of n) (byte_position a) skipped)
 
 -- a call's line, which tells what was carried to it beside what the call passed over, and the state after it
 abbrev pub with_line : ℕ → ℕ → Decoded → Listed
@@ -74,13 +74,13 @@ opening_told n = (leb 2 n && leb n 5) || eqb n 13
 
 -- "number and byte position afterwards", and what it passed over; an opening refused with 1 is told by the first call
 abbrev pub opening_shown : ℕ → Heading → Audio → List Shown
-opening_shown skipped Known a = []
-opening_shown skipped (HeadingRefused n) a = cond (opening_told n) (shown (RefusedLine n (byte_position a) skipped) [] ∷ []) []
+opening_shown skipped (Ok _) a = []
+opening_shown skipped (Err n) a = cond (opening_told (number_of n)) (shown (RefusedLine (number_of n) (byte_position a) skipped) [] ∷ []) []
 
 -- 02, E2: "A header accepted at opening has no line; its number goes to the line after it"
 abbrev pub carried_by : ℕ → Heading → ℕ
-carried_by skipped Known = skipped
-carried_by skipped (HeadingRefused n) = 0
+carried_by skipped (Ok _) = skipped
+carried_by skipped (Err n) = 0
 
 -- from a fresh opening in this reading; on n bytes call n/2 + 2 and all later ones give 1 or 7 (claims, `settles`)
 unfoldable pub called_of : Reading → List ℕ → List Shown

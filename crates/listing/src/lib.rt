@@ -10,7 +10,7 @@ ghost use Rattle.listing.specs.Tally.{skipped_in};
 use audio::Answer;
 use buffer::{BitIndex, BytePos};
 use state::Audio;
-use verdict::{Asked, Heading};
+use verdict::Asked;
 
 #[derive(Clone, Copy)]
 pub enum Line {
@@ -55,9 +55,7 @@ pub struct Listed {
 pub fn byte_of(a: Audio) -> BytePos
     ensures { result ≡ byte_position a }
 {
-    let reader = a.reader;
-    let at = reader.at;
-    at.byte()
+    a.reader.at.byte()
 }
 
 // The byte before `end` by `bits`, rounded up to bytes.
@@ -113,10 +111,9 @@ pub fn is_told(number: u32) -> bool
 pub fn carried(opened: Asked) -> usize
     ensures { result ≡ carried_by opened.skipped opened.answer }
 {
-    let answer = opened.answer;
-    match answer {
-        Heading::Known => opened.skipped,
-        Heading::Refused(_) => 0,
+    match opened.answer {
+        Ok(()) => opened.skipped,
+        Err(_) => 0,
     }
 }
 
@@ -168,7 +165,8 @@ fn line_of(number: u32, answer: Answer, state: Audio, skipped: usize) -> Line
             time,
             skipped,
         },
-        Answer::Refused(n) => {
+        Answer::Refused(refusal) => {
+            let n = refusal.number();
             if audio::ends(n) {
                 return Line::End {
                     number: n,

@@ -1,6 +1,6 @@
 -- The promises' premises can be met: each number of decode's table occurs, on small streams and states, computed; calls are lent
 -- enough; and there are pasts. Assumes nothing.
-use Rattle.std.specs.Prelude.{ℕ, ◌≡◌, refl, false, pos, Float, length, replicate}
+use Rattle.std.specs.Prelude.{ℕ, ◌≡◌, refl, false, pos, Float, length, replicate, Ok, Err}
 use mathlib.Core.List.{List, [], ◌∷◌, ◌++◌, map, flat_map}
 use Rattle.std.proofs.Common.{arith, lt-ltb}
 use Rattle.std.specs.Float.{fin}
@@ -19,14 +19,10 @@ use Rattle.clock.specs.Clock.{start_time_of, are_same_bits, on_time}
 use Rattle.readings.specs.Readings.{plain}
 use Rattle.header.specs.declared.Format.{Format}
 use Rattle.state.specs.State.{fresh, numbers_ok, in_range, stands_at, pends, framed_to}
-use Rattle.verdict.specs.Verdict.{attempt_of, headed_of, enough_of, ready_of, at_once_of, known_of}
-use Rattle.audio.specs.Calls.{answering, after_of, framed_of, decode_of, blank, open_of, open_memory, no_room_of, format_of}
+use Rattle.verdict.specs.Verdict.{attempt_of, headed_of, enough_of, ready_of, at_once_of, known_of, Heading, Asked}
+use Rattle.audio.specs.Calls.{answering, after_of, framed_of, decode_of, blank, open_of, open_memory, no_room_of, format_of, clip_format}
 use Rattle.audio.specs.Numbers.{heading_number, answer_number}
 use Rattle.state.specs.declared.Audio.{Audio}
-use Rattle.audio.specs.declared.Reply.TheVariants.{Format as ReplyFormat, Refused as ReplyRefused}
-use Rattle.verdict.specs.declared.Asked.{Asked}
-use Rattle.verdict.specs.declared.Heading.{Heading}
-use Rattle.verdict.specs.declared.Heading.TheVariants.{Known, Refused}
 use Rattle.listing.specs.Lines.{next_of, shown_from, called_of, shown_of, lines_of}
 use Rattle.listing.specs.Summary.{counted_text, hundredths_of, seconds_text, frames_text, junk_text, reason_text, refusal_text, refusals_text, lines_text}
 use Rattle.listing.specs.Tally.{end_from, junk_in}
@@ -37,6 +33,8 @@ use Rattle.listing.specs.declared.Line.TheVariants.{Frame as FrameLine, Refused 
 use Rattle.clip.specs.Frames.{heard_of, clip_of}
 use Rattle.claims.specs.Numbers.{Lent}
 use Rattle.past.specs.Pasts.{Past, opened}
+use Rattle.refusal.specs.declared.Refusal.TheVariants.{NoHeader, NoSync, OtherLayer, NoBitRate, NoSampleRate, CutOff, LongStream, BadState}
+use Rattle.refusal.specs.declared.Refusal.{Refusal}
 
 -- decode's number goes by the verdict, and so by the lengths of memory and output only
 abbrev pub verdict : List ℕ → ℕ → ℕ → Audio → ℕ
@@ -48,8 +46,8 @@ unfolding decode_of framed_of after_of
 number_by_verdict s memory output a = let r = ready_of s (length memory) (length output) a in go r.skipped r.answer r.state
   where
     go : (k : ℕ) (h : Heading) (b : Audio) → answer_number (answering s k h b).answer ≡ heading_number h
-    go k Known b = refl
-    go k (Refused n) b = refl
+    go k (Ok _) b = refl
+    go k (Err n) b = refl
 
 -- a state whose clip began at 32 kbps, 44,100 Hz, in stereo; and one after a frame, with the ring between two slots
 abbrev pub begun : Audio
@@ -109,7 +107,7 @@ cut_behind_three = 1 ∷ 2 ∷ 3 ∷ header ++ replicate 2 0
 
 pub seven_tells_it_once : let x = ready_of cut_behind_three 2048 2304 (fresh plain) in
     let y = ready_of cut_behind_three 2048 2304 x.state in
-    (x.answer ∷ y.answer ∷ [] ≡ Refused 7 ∷ Refused 7 ∷ []) × (x.skipped ∷ y.skipped ∷ [] ≡ 3 ∷ 0 ∷ [])
+    (x.answer ∷ y.answer ∷ [] ≡ Err CutOff ∷ Err CutOff ∷ []) × (x.skipped ∷ y.skipped ∷ [] ≡ 3 ∷ 0 ∷ [])
 unfolding ready_of at_once_of headed_of attempt_of enough_of fresh in_range numbers_ok on_time are_same_bits start_time_of is_nan to_bits div of_int round units odd size
     header_of start_of sync_of seek_of search_of has_of skip_bytes_of field_of read_of bits_value bit_at first_from run ◌>>=◌ fields_of ident_of rates_of rest_of
     mode_of bound_of check_of size_of
@@ -155,7 +153,7 @@ unfolding open_of no_room_of attempt_of fresh header_of start_of sync_of seek_of
 openings_occur = refl
 
 pub questions_occur : map (λ s. (format_of s (fresh plain)).answer) firsts ++ ((format_of [] broken).answer ∷ [])
-    ≡ ReplyFormat 44100 192 0 ∷ ReplyRefused 1 ∷ ReplyRefused 2 ∷ ReplyRefused 3 ∷ ReplyRefused 4 ∷ ReplyRefused 5 ∷ ReplyRefused 10 ∷ []
+    ≡ Ok (clip_format 44100 192 0) ∷ Err NoHeader ∷ Err NoSync ∷ Err OtherLayer ∷ Err NoBitRate ∷ Err NoSampleRate ∷ Err BadState ∷ []
 unfolding format_of known_of at_once_of attempt_of fresh in_range numbers_ok on_time are_same_bits start_time_of is_nan to_bits div of_int header_of start_of sync_of seek_of
     search_of has_of skip_bytes_of field_of read_of bits_value bit_at first_from run ◌>>=◌ fields_of ident_of rates_of rest_of mode_of bound_of check_of size_of
 questions_occur = refl
@@ -169,9 +167,9 @@ voice = record { reading = plain; samplerate = 1; bitrate = 3; mode = 3; bound =
 
 -- each of the three values is told, and the header's 188 bytes of data are pending; a refused question has moved on, to the end, past six
 -- bytes; and a format that is known is told whatever follows in the stream
-pub formats_occur : (format_of spoken (fresh plain) ≡ record { answer = ReplyFormat 48000 64 3; state = pends (reader_at 32) voice 188 (fresh plain); skipped = 0 })
-    × (format_of (1 ∷ replicate 5 0) (fresh plain) ≡ record { answer = ReplyRefused 2; state = stands_at (reader_at 48) (fresh plain); skipped = 6 })
-    × (format_of spoken begun ≡ record { answer = ReplyFormat 44100 32 0; state = begun; skipped = 0 })
+pub formats_occur : (format_of spoken (fresh plain) ≡ record { answer = Ok (clip_format 48000 64 3); state = pends (reader_at 32) voice 188 (fresh plain); skipped = 0 })
+    × (format_of (1 ∷ replicate 5 0) (fresh plain) ≡ record { answer = Err NoSync; state = stands_at (reader_at 48) (fresh plain); skipped = 6 })
+    × (format_of spoken begun ≡ record { answer = Ok (clip_format 44100 32 0); state = begun; skipped = 0 })
 unfolding format_of known_of at_once_of attempt_of fresh in_range numbers_ok on_time are_same_bits start_time_of is_nan to_bits div of_int header_of start_of sync_of seek_of
     search_of has_of skip_bytes_of field_of read_of bits_value bit_at first_from run ◌>>=◌ fields_of ident_of rates_of rest_of mode_of bound_of check_of size_of
 formats_occur = (refl, refl, refl)
@@ -199,7 +197,7 @@ pub eight_occurs : (memory output : ℕ) (a : Audio) → verdict long memory out
 unfolding ready_of at_once_of
 eight_occurs memory output a = simp (lt-ltb longest_stream (length long) (omega (arith, long_length)))
 
-pub eight_occurs_first : (memory : List Float) (a : Audio) → ((open_of plain long memory).answer ≡ Refused 8) × ((format_of long a).answer ≡ ReplyRefused 8)
+pub eight_occurs_first : (memory : List Float) (a : Audio) → ((open_of plain long memory).answer ≡ Err LongStream) × ((format_of long a).answer ≡ Err LongStream)
 unfolding open_of no_room_of format_of known_of at_once_of
 eight_occurs_first memory a = let many = lt-ltb longest_stream (length long) (omega (arith, long_length)) in (simp many, simp many)
 

@@ -1,6 +1,6 @@
 -- 02, E3, on small streams, computed: 13 is given by each call that seeks a header, and only in the strict reading; what it leaves; and what
 -- comes after it. Assumes nothing.
-use Rattle.std.specs.Prelude.{ℕ, ◌≡◌, refl, true}
+use Rattle.std.specs.Prelude.{ℕ, ◌≡◌, refl, true, Ok, Err}
 use mathlib.Core.List.{List, [], ◌∷◌, ◌++◌, flat_map}
 use Rattle.std.specs.Float.Ieee.{is_nan, to_bits, div, of_int, round, units, odd, size}
 use Rattle.ground.specs.First.{first_from}
@@ -17,15 +17,15 @@ use Rattle.clock.specs.Clock.{start_time_of, are_same_bits, on_time}
 use Rattle.state.specs.State.{fresh, numbers_ok, in_range, stands_at, pends}
 use Rattle.state.specs.declared.Audio.{Audio}
 use Rattle.verdict.specs.Verdict.{asked, attempt_of, headed_of, enough_of, ready_of, at_once_of, known_of}
-use Rattle.verdict.specs.declared.Heading.TheVariants.{Known, Refused}
 use Rattle.audio.specs.Calls.{decode_of, blank, open_of, open_memory, no_room_of, format_of}
-use Rattle.audio.specs.declared.Reply.TheVariants.{Refused as ReplyRefused}
 use Rattle.listing.specs.Lines.{next_of, shown_from, called_of, shown_of, lines_of}
 use Rattle.listing.specs.Summary.{counted_text, hundredths_of, seconds_text, frames_text, junk_text, reason_text, refusal_text, refusals_text, lines_text}
 use Rattle.listing.specs.Tally.{end_from, junk_in}
 use Rattle.listing.specs.Text.{digits_in, decimal_of, numbered, bracketed}
 use Rattle.listing.specs.Words.{letters, reason_of}
 use Rattle.listing.specs.declared.Line.TheVariants.{Refused as RefusedLine, End}
+use Rattle.refusal.specs.declared.Refusal.TheVariants.{CutOff, BarredRate}
+use Rattle.refusal.specs.declared.Refusal.{Refusal}
 
 abbrev strictly : Reading
 strictly = reading_by 1
@@ -42,10 +42,10 @@ spoken_format = record { reading = strictly; samplerate = 0; bitrate = 3; mode =
 
 -- each call gives it; the position is behind the mode, no format is known, and nothing is pending. Read plainly, the header is accepted
 pub thirteen_occurs : let moved = stands_at (reader_at 26) (fresh strictly) in
-    (open_of strictly loud (quiet 2048) ≡ asked 0 (Refused 13) moved)
-    × (format_of loud (fresh strictly) ≡ record { answer = ReplyRefused 13; state = moved; skipped = 0 })
-    × (ready_of loud 2048 2304 (fresh strictly) ≡ asked 0 (Refused 13) moved)
-    × ((open_of plain loud (quiet 2048)).answer ≡ Known)
+    (open_of strictly loud (quiet 2048) ≡ asked 0 (Err BarredRate) moved)
+    × (format_of loud (fresh strictly) ≡ record { answer = Err BarredRate; state = moved; skipped = 0 })
+    × (ready_of loud 2048 2304 (fresh strictly) ≡ asked 0 (Err BarredRate) moved)
+    × ((open_of plain loud (quiet 2048)).answer ≡ Ok tt)
 unfolding open_of no_room_of format_of known_of ready_of at_once_of headed_of attempt_of enough_of fresh in_range numbers_ok on_time are_same_bits start_time_of is_nan to_bits div
     of_int round units odd size header_of start_of sync_of seek_of search_of has_of skip_bytes_of field_of read_of bits_value bit_at first_from run ◌>>=◌ fields_of
     ident_of rates_of rest_of mode_of bound_of check_of size_of
@@ -55,7 +55,7 @@ thirteen_occurs = (refl, refl, refl, refl)
 abbrev known : Audio
 known = pends (reader_at 0) spoken_format 0 (fresh strictly)
 
-pub the_old_format_is_kept : ready_of loud 2048 2304 known ≡ asked 0 (Refused 13) (stands_at (reader_at 26) known)
+pub the_old_format_is_kept : ready_of loud 2048 2304 known ≡ asked 0 (Err BarredRate) (stands_at (reader_at 26) known)
 unfolding ready_of at_once_of headed_of attempt_of enough_of fresh in_range numbers_ok on_time are_same_bits start_time_of is_nan to_bits div of_int round units odd size
     header_of start_of sync_of seek_of search_of has_of skip_bytes_of field_of read_of bits_value bit_at first_from run ◌>>=◌ fields_of ident_of rates_of rest_of
     mode_of bound_of check_of size_of
@@ -81,6 +81,6 @@ thirteen_in_words = refl
 abbrev by_hand : Audio
 by_hand = pends (reader_at 32) (record { reading = strictly; samplerate = 0; bitrate = 12; mode = 3; bound = 0 }) 1040 (fresh strictly)
 
-pub by_hand_is_in_range : (in_range by_hand ≡ true) × (ready_of loud 2048 2304 by_hand ≡ asked 0 (Refused 7) by_hand)
+pub by_hand_is_in_range : (in_range by_hand ≡ true) × (ready_of loud 2048 2304 by_hand ≡ asked 0 (Err CutOff) by_hand)
 unfolding ready_of at_once_of headed_of enough_of fresh in_range numbers_ok on_time are_same_bits start_time_of is_nan to_bits div of_int round units odd size has_of
 by_hand_is_in_range = (refl, refl)

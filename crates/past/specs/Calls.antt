@@ -1,7 +1,7 @@
 -- A call of decode and what it leaves; when it accepts a frame, and from which state: the one that has the frame's header. A call that
 -- accepts none leaves frame count and ring position. From demand 3, "both accept a frame", and 01, "Numbers a call can give".
 -- Assumes nothing.
-use Rattle.std.specs.Prelude.{ℕ, ◌+◌, ◌-◌, ◌*◌, List, ℤ, Float, length, get_or}
+use Rattle.std.specs.Prelude.{ℕ, ◌+◌, ◌-◌, ◌*◌, List, ℤ, Float, length, get_or, Ok, Err}
 use Rattle.std.proofs.Math.Path.{◌≡◌, refl, ap, sym}
 use Rattle.std.proofs.Common.{◌∙◌, arith}
 use Rattle.std.specs.Float.{nan}
@@ -9,16 +9,13 @@ use Rattle.buffer.specs.declared.Reader.{Reader}
 use Rattle.grammar.specs.Reads.{called}
 use Rattle.synthesis.specs.Slots.{position_after, memory_after, output_after}
 use Rattle.frame.specs.Frame.{codes_in, granules_at, slots_of, frame_memory, frame_output}
-use Rattle.verdict.specs.Verdict.{asked, ready_of}
-use Rattle.audio.specs.Calls.{after_of, framed_of, framed_memory, framed_output, answering, decode_of, decode_memory, decode_output, format_of}
+use Rattle.verdict.specs.Verdict.{asked, ready_of, Heading, Asked}
+use Rattle.audio.specs.Calls.{after_of, framed_of, framed_memory, framed_output, answering, decode_of, decode_memory, decode_output, format_of, Decoded}
 use Rattle.audio.specs.CallsLaws.{Goes, goes, question_leaves}
 use Rattle.verdict.specs.VerdictLaws.{Stays, stays, attempt_keeps, Verdict, verdict_holds, verdict_leaves}
 use Rattle.state.specs.declared.Audio.{Audio}
-use Rattle.verdict.specs.declared.Heading.{Heading}
-use Rattle.verdict.specs.declared.Heading.TheVariants.{Known, Refused}
-use Rattle.verdict.specs.declared.Asked.{Asked}
-use Rattle.audio.specs.declared.Decoded.{Decoded}
 use Rattle.audio.specs.declared.Answer.TheVariants.{Frame, Refused as AnswerRefused}
+use Rattle.refusal.specs.declared.Refusal.{Refusal}
 
 -- a question leaves frame count and ring position
 pub question_keeps : (s : List ℕ) (a : Audio) → Stays a (format_of s a).state
@@ -89,7 +86,7 @@ module _ (c : Call) where
   pub before_keeps : Stays c.state (frame_state c)
   before_keeps = verdict_leaves (λ _. Stays c.state) (stays c.state) (attempt_keeps c.stream c.state) verdict_of
 
-  pub known_leaves : (before c).answer ≡ Known → Leaves c
+  pub known_leaves : (before c).answer ≡ Ok tt → Leaves c
   unfolding decode_of decode_memory decode_output framed_of after_of framed_memory framed_output frame_memory frame_output
   known_leaves k =
       let e = before_keeps.ring in
@@ -101,15 +98,15 @@ module _ (c : Call) where
         output = rw (k, e);
       }
 
-  pub accepted_known : Accepts c → (before c).answer ≡ Known
+  pub accepted_known : Accepts c → (before c).answer ≡ Ok tt
   unfolding decode_of
   accepted_known ok = by_verdict (before c).skipped (before c).answer (before c).state ok.answer
     where
-      by_verdict : (k : ℕ) (h : Heading) (b : Audio) → (answering c.stream k h b).answer ≡ Frame ok.time ok.bits → h ≡ Known
-      by_verdict k Known b e = refl
-      by_verdict k (Refused n) b e = absurd (let z : ◌≡◌ {A = ℕ} 0 1 = cc in omega arith)
+      by_verdict : (k : ℕ) (h : Heading) (b : Audio) → (answering c.stream k h b).answer ≡ Frame ok.time ok.bits → h ≡ Ok tt
+      by_verdict k (Ok _) b e = refl
+      by_verdict k (Err n) b e = absurd (let z : ◌≡◌ {A = ℕ} 0 1 = cc in omega arith)
 
-  pub known_accepted : {k : ℕ} (b : Audio) → before c ≡ asked k Known b → Accepts c
+  pub known_accepted : {k : ℕ} (b : Audio) → before c ≡ asked k (Ok tt) b → Accepts c
   unfolding decode_of framed_of after_of
   known_accepted b is =
       record { time = b.time; bits = (granules_at c.stream b.reader b.format).next.at.0 - b.reader.at.0; answer = rw is }
@@ -126,15 +123,15 @@ module _ (c : Call) where
       cc
 
   -- a call that accepts no frame leaves frame count and ring position
-  unless_known : ((before c).answer ≡ Known → ⊥) → Stays c.state (outcome c).state
+  unless_known : ((before c).answer ≡ Ok tt → ⊥) → Stays c.state (outcome c).state
   unfolding decode_of
   unless_known never = go (before c).answer refl
     where
       go : (h : Heading) → (before c).answer ≡ h → Stays c.state (answering c.stream (before c).skipped h (frame_state c)).state
-      go Known e = absurd (never e)
-      go (Refused n) e = before_keeps
+      go (Ok _) e = absurd (never e)
+      go (Err n) e = before_keeps
 
-  pub refused_keeps : (n : ℕ) → (outcome c).answer ≡ AnswerRefused n → Stays c.state (outcome c).state
+  pub refused_keeps : (n : Refusal) → (outcome c).answer ≡ AnswerRefused n → Stays c.state (outcome c).state
   unfolding framed_of after_of
   refused_keeps n e =
       unless_known

@@ -1,6 +1,6 @@
 -- A call that gives neither 1 nor 7 moves on: it had 48 bits left, and the position moves by 16 at least. From 01, "From the bytes to a
 -- header": an attempt "moves reading on at least 16 bits", and a frame uses as many. Assumes nothing.
-use Rattle.std.specs.Prelude.{ℕ, ◌+◌, ◌*◌, ◌≤◌, ◌<◌, ◌≡◌, Bool, true, false, List, ltb, length}
+use Rattle.std.specs.Prelude.{ℕ, ◌+◌, ◌*◌, ◌≤◌, ◌<◌, ◌≡◌, Bool, true, false, List, ltb, length, Result, Ok, Err}
 use Rattle.std.proofs.Math.Path.{refl}
 use Rattle.std.proofs.Common.{sym, ap, ◌∙◌, inl, inr, arith, ltb-true, ltb-false}
 use Rattle.ground.specs.Rows.{never}
@@ -9,20 +9,19 @@ use Rattle.buffer.specs.Calls.{left}
 use Rattle.buffer.specs.declared.Reader.{Reader}
 use Rattle.header.specs.Header.{header_of}
 use Rattle.header.specs.Moves.{attempt_moves, few_bits_stay}
-use Rattle.header.specs.declared.Header.{Header}
-use Rattle.header.specs.declared.Header.TheVariants.{Accepted, Refused as HeaderRefused}
 use Rattle.state.specs.StateLaws.{Ranged, ranged}
 use Rattle.state.specs.declared.Audio.{Audio}
-use Rattle.verdict.specs.Verdict.{asked, seeking, attempt_of}
+use Rattle.verdict.specs.Verdict.{asked, seeking, attempt_of, Heading, Asked}
 use Rattle.verdict.specs.VerdictLaws.{Called, Heads, waits, accepts, Verdict, at_once, eight, nine, ten, no_header, cut_off, whole, heads_kept}
-use Rattle.verdict.specs.declared.Asked.{Asked}
-use Rattle.verdict.specs.declared.Heading.{Heading}
-use Rattle.verdict.specs.declared.Heading.TheVariants.{Known, Refused}
 use Rattle.audio.specs.Calls.{answering, decode_of}
 use Rattle.audio.specs.CallsLaws.{known_goes}
 use Rattle.audio.specs.Numbers.{answer_number}
 use Rattle.past.specs.Calls.{Call, outcome, verdict_of}
 use Rattle.past.specs.Sound.{frame_moves}
+use Rattle.refusal.specs.declared.Refusal.TheVariants.{NoHeader}
+use Rattle.refusal.specs.Numbers.{number_of}
+use Rattle.refusal.specs.declared.Refusal.{Refusal}
+use Rattle.header.specs.declared.Accepted.{Accepted}
 
 -- an attempt that does not give 1
 module _ (s : List ℕ) (short : length s ≤ longest_stream) (a : Audio) (w : Ranged a) where
@@ -30,15 +29,15 @@ module _ (s : List ℕ) (short : length s ≤ longest_stream) (a : Audio) (w : R
   unfolding attempt_of
   tried_reader = let t = header_of s a.reader a.format in go _ t.next t.header
     where
-      go : (k : ℕ) (r : Reader) (h : Header) → (seeking k a r h).state.reader ≡ r
-      go k r (Accepted f n) = refl
-      go k r (HeaderRefused n) = refl
+      go : (k : ℕ) (r : Reader) (h : Result Accepted Refusal) → (seeking k a r h).state.reader ≡ r
+      go k r (Ok x) = refl
+      go k r (Err n) = refl
 
-  few_give_one : left s a.reader < 48 → (attempt_of s a).answer ≡ Refused 1
+  few_give_one : left s a.reader < 48 → (attempt_of s a).answer ≡ Err NoHeader
   unfolding attempt_of
   few_give_one few = rw (few_bits_stay s a.reader a.format short w.near few)
 
-  pub attempt_forth : {k : ℕ} {h : Heading} {b : Audio} → attempt_of s a ≡ asked k h b → (h ≡ Refused 1 → ⊥)
+  pub attempt_forth : {k : ℕ} {h : Heading} {b : Audio} → attempt_of s a ≡ asked k h b → (h ≡ Err NoHeader → ⊥)
       → (48 ≤ left s a.reader) × (a.reader.at.0 + 16 ≤ b.reader.at.0)
   attempt_forth {k} {h} {b} e not = go (ltb (left s a.reader) 48) refl
     where
@@ -72,8 +71,8 @@ module _ (s : List ℕ) (m o : ℕ) (a : Audio) (c : Called s m o a) where
       attempt_forth s c.room.short a (ranged a c.within) e (λ k. p (ap refused_by k))
     where
       refused_by : Heading → ℕ
-      refused_by Known = 0
-      refused_by (Refused n) = n
+      refused_by (Ok _) = 0
+      refused_by (Err n) = number_of n
   verdict_moves (cut_off _ h l) p q = absurd (q refl)
   verdict_moves (whole {k = skipped} {b = b} d h l) p q =
       let k = heads_kept d h in

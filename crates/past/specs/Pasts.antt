@@ -8,6 +8,7 @@ use Rattle.audio.specs.Calls.{open_of, open_memory, format_of, decode_of, decode
 use Rattle.readings.specs.declared.Reading.{Reading}
 use Rattle.audio.specs.declared.Answer.TheVariants.{Refused}
 use Rattle.state.specs.declared.Audio.{Audio}
+use Rattle.refusal.specs.declared.Refusal.{Refusal}
 
 -- every call may be on another stream and, where it takes one, another output: too long, too short, cut, changed, or the same again
 pub data Past : Audio → List Float → Type 0 where
@@ -15,7 +16,7 @@ pub data Past : Audio → List Float → Type 0 where
   asked : {a : Audio} {m : List Float} → Past a m → (s : List ℕ) → Past (format_of s a).state m
   decoded : {a : Audio} {m : List Float} → Past a m → (s : List ℕ) (o : List Float) → Past (decode_of s m o a).state (decode_memory s m o a)
   -- a call that is refused touches no memory, so it may have been lent any other
-  refused : {a : Audio} {m : List Float} → Past a m → (s : List ℕ) (other o : List Float) (n : ℕ) → (decode_of s other o a).answer ≡ Refused n
+  refused : {a : Audio} {m : List Float} → Past a m → (s : List ℕ) (other o : List Float) (n : Refusal) → (decode_of s other o a).answer ≡ Refused n
       → Past (decode_of s other o a).state m
   -- the slice that is lent may be longer than the memory, and what lies past it is the caller's: it may change, or be cut off
   relent : {a : Audio} {m : List Float} → Past a m → (more : List Float) → Past a (take memory_length m ++ more)

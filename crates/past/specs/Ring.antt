@@ -1,7 +1,7 @@
 -- What of a decoder the synthesis sees, its frame count, ring position and memory, through any calls since opening: only a decoded frame
 -- changes it. So the ring position goes by the count of accepted frames, "hence the remainder by 4 in demand 3" (01), and the
 -- memory stays long enough. Assumes nothing.
-use Rattle.std.specs.Prelude.{ℕ, zero, suc, ◌+◌, ◌-◌, ◌*◌, ◌%◌, ◌≤◌, ◌<◌, ◌≡◌, List, ◌++◌, Float, length, drop}
+use Rattle.std.specs.Prelude.{ℕ, zero, suc, ◌+◌, ◌-◌, ◌*◌, ◌%◌, ◌≤◌, ◌<◌, ◌≡◌, List, ◌++◌, Float, length, drop, Ok, Err}
 use Rattle.std.proofs.Math.Path.{refl, ap}
 use Rattle.std.proofs.Common.{sym, ◌∙◌, arith, length-append, take-append-drop}
 use Rattle.std.proofs.Math.ListN.{take, length-drop}
@@ -17,12 +17,11 @@ use Rattle.audio.specs.Calls.{after_of, framed_of, framed_memory, decode_of, dec
 use Rattle.audio.specs.CallsLaws.{Ready, blank_length}
 use Rattle.readings.specs.declared.Reading.{Reading}
 use Rattle.state.specs.declared.Audio.{Audio}
-use Rattle.verdict.specs.declared.Heading.{Heading}
-use Rattle.verdict.specs.declared.Heading.TheVariants.{Known, Refused}
 use Rattle.past.specs.Pasts.{Past, opened, asked, decoded, refused, relent}
 use Rattle.verdict.specs.VerdictLaws.{Stays, attempt_keeps}
 use Rattle.past.specs.Calls.{question_keeps, Call, outcome, new_memory, before, frame_state, before_keeps, known_leaves, refused_keeps}
 use Rattle.past.specs.Formats.{decode_lengths}
+use Rattle.verdict.specs.Verdict.{Heading}
 
 -- ---- the memory stays long enough
 
@@ -80,8 +79,8 @@ module _ (P : ℕ → ℕ → List Float → Type 0) where
         ready = seen_stays (before_keeps c) h
 
         go : (x : Heading) → (before c).answer ≡ x → Seen (outcome c).state (new_memory c)
-        go Known e = let d = known_leaves c e in rw e (frame c.stream (frame_state c) c.memory d.goes.ready d.goes.memory_long ready)
-        go (Refused n) e = rw e ready
+        go (Ok _) e = let d = known_leaves c e in rw e (frame c.stream (frame_state c) c.memory d.goes.ready d.goes.memory_long ready)
+        go (Err n) e = rw e ready
 
     pub since_opening : {a : Audio} {m : List Float} → Past a m → Seen a m
     since_opening (opened c s m short long) = opened_seen c s m short long

@@ -1,7 +1,7 @@
 -- A state in range stays in range through every call, so a decoder since its opening never meets 10; and what more its states hold:
 -- the start time by the count of frames, a pending header's mode extension, the opening's reading and its pairs (Ring has the ring position and the memory).
 -- From 01, "Numbers a call can give" (State in range). Assumes nothing.
-use Rattle.std.specs.Prelude.{ℕ, ◌+◌, ◌*◌, ◌/◌, ◌≤◌, ◌≡◌, true, List, Float, length}
+use Rattle.std.specs.Prelude.{ℕ, ◌+◌, ◌*◌, ◌/◌, ◌≤◌, ◌≡◌, true, List, Float, length, Ok, Err}
 use Rattle.std.proofs.Math.Path.{refl}
 use Rattle.std.proofs.Common.{sym, ap, ◌∙◌, add-zero, le-ltb}
 use native.Mathlib.Omega.{arith}
@@ -13,8 +13,8 @@ use Rattle.clock.specs.Clock.{start_time_of}
 use Rattle.synthesis.specs.Ring.{place_after}
 use Rattle.frame.specs.Frame.{cut_format, granules_at}
 use Rattle.state.specs.State.{fresh, in_range}
-use Rattle.verdict.specs.Verdict.{ready_of}
-use Rattle.audio.specs.Calls.{aligned_of, answering, after_of, framed_of, decode_of, open_of, format_of}
+use Rattle.verdict.specs.Verdict.{ready_of, Heading, Asked}
+use Rattle.audio.specs.Calls.{aligned_of, answering, after_of, framed_of, decode_of, open_of, format_of, Decoded}
 use Rattle.state.specs.StateLaws.{Ranged, ranged, ranged_in_range, fresh_ranged, framed_to_ranged}
 use Rattle.audio.specs.CallsLaws.{Ready, goes, ended, question_leaves, by_opening}
 use Rattle.verdict.specs.VerdictLaws.{Sound, Kept, attempt_kept, verdict_holds, verdict_kept}
@@ -23,10 +23,6 @@ use Rattle.readings.specs.declared.Reading.{Reading}
 use Rattle.state.specs.declared.Audio.{Audio}
 use Rattle.audio.specs.declared.Answer.{Answer}
 use Rattle.audio.specs.declared.Answer.TheVariants.{Frame, Refused as AnswerRefused}
-use Rattle.audio.specs.declared.Decoded.{Decoded}
-use Rattle.verdict.specs.declared.Asked.{Asked}
-use Rattle.verdict.specs.declared.Heading.{Heading}
-use Rattle.verdict.specs.declared.Heading.TheVariants.{Known, Refused}
 use Rattle.past.specs.Pasts.{Past, opened, asked as has_asked, decoded, refused, relent}
 use Rattle.frame.specs.FrameLaws.{frame_uses_16_bits}
 
@@ -90,7 +86,7 @@ decode_leads s m o a w = go r.answer refl
     k = verdict_kept w (verdict_holds s (length m) (length o) a)
 
     go : (y : Heading) → r.answer ≡ y → Leads a (answering s r.skipped y r.state).state (frames_in (answering s r.skipped y r.state).answer)
-    go Known e =
+    go (Ok _) e =
         let y = (goes s (length m) (length o) a r refl e).ready in
         record {
           ranged = framed_ranged s r.skipped r.state y k.ranged (k.some e);
@@ -98,7 +94,7 @@ decode_leads s m o a w = go r.answer refl
           frames = ap (λ n. n + 1) k.frames;
           reading = k.reading;
         }
-    go (Refused n) e = no_more k
+    go (Err n) e = no_more k
 
 stays_leads : (a : Audio) → Ranged a → Leads a a 0
 stays_leads a w = record { ranged = w; sound = λ h. h; frames = sym (add-zero _); reading = refl }
@@ -139,7 +135,7 @@ unfolding fresh start_time_of
 fresh_sound c = record { extension = λ some. absurd (some refl); time = refl; pair = λ some. absurd (some refl) }
 
 -- the header of a frame about to be decoded has a mode extension
-pub frame_has_extension : (s : List ℕ) (m o : ℕ) (a : Audio) → in_range a ≡ true → Sound a → (ready_of s m o a).answer ≡ Known
+pub frame_has_extension : (s : List ℕ) (m o : ℕ) (a : Audio) → in_range a ≡ true → Sound a → (ready_of s m o a).answer ≡ Ok tt
     → Extended (ready_of s m o a).state.format.mode (ready_of s m o a).state.format.bound
 frame_has_extension s m o a r h e = let k = verdict_kept (ranged a r) (verdict_holds s m o a) in (k.sound h).extension (k.some e)
 

@@ -1,10 +1,12 @@
 // The reader's eight calls and the attempt at a header as numbers.
 ghost use Rattle.std.specs.Prelude.{◌≡◌};
-ghost use Rattle.probe.specs.Answers.{of_holds, of_read, of_moved, of_skipped, of_told, of_sync, call_of, answer_into};
+ghost use Rattle.refusal.specs.Numbers.{number_of};
+ghost use Rattle.probe.specs.Answers.{as_numbers, of_holds, of_taken, of_moved, of_told, of_search, of_sync, call_of, answer_into};
 ghost use Rattle.probe.specs.Headers.{format_from, of_attempt, header_call_of, stored};
 
-use buffer::{BitIndex, Holds, Moved, Read, Reader, Skipped, Sync, Told};
-use header::{Attempt, Format, Header};
+use buffer::{BitIndex, BytePos, Reader, Sync, Taken};
+use header::{Attempt, Format};
+use refusal::Refusal;
 
 // 01's number, a value, and the bit position afterwards. A search also has the byte that it came to, and the bytes that it passed over.
 #[derive(Clone, Copy)]
@@ -16,127 +18,78 @@ pub struct Answer {
     pub skipped: usize,
 }
 
-fn of_holds(at: usize, h: Holds) -> Answer
+fn given(value: usize, at: usize) -> Answer
+    ensures { result ≡ as_numbers 0 value at }
+{
+    Answer {
+        number: 0,
+        value,
+        at,
+        sync: 0,
+        skipped: 0,
+    }
+}
+
+fn refused(refusal: Refusal, at: usize) -> Answer
+    ensures { result ≡ as_numbers (number_of refusal) 0 at }
+{
+    Answer {
+        number: refusal.number(),
+        value: 0,
+        at,
+        sync: 0,
+        skipped: 0,
+    }
+}
+
+fn of_holds(at: usize, h: Result<bool, Refusal>) -> Answer
     ensures { result ≡ of_holds at h }
 {
     match h {
-        Holds::Yes => Answer {
-            number: 0,
-            value: 1,
-            at,
-            sync: 0,
-            skipped: 0,
-        },
-        Holds::No => Answer {
-            number: 0,
-            value: 0,
-            at,
-            sync: 0,
-            skipped: 0,
-        },
-        Holds::Refused(number) => Answer {
-            number,
-            value: 0,
-            at,
-            sync: 0,
-            skipped: 0,
-        },
+        Ok(true) => given(1, at),
+        Ok(false) => given(0, at),
+        Err(refusal) => refused(refusal, at),
     }
 }
 
-fn of_read(at: usize, x: Read) -> Answer
-    ensures { result ≡ of_read at x }
+fn of_read(at: usize, x: Result<Taken<u32>, Refusal>) -> Answer
+    ensures { result ≡ of_taken at x }
 {
     match x {
-        Read::Value(value, next) => Answer {
-            number: 0,
-            value: value as usize,
-            at: next.at.0,
-            sync: 0,
-            skipped: 0,
-        },
-        Read::Short => Answer {
-            number: 12,
-            value: 0,
-            at,
-            sync: 0,
-            skipped: 0,
-        },
-        Read::Refused(number) => Answer {
-            number,
-            value: 0,
-            at,
-            sync: 0,
-            skipped: 0,
-        },
+        Ok(taken) => given(taken.value as usize, taken.next.at.0),
+        Err(refusal) => refused(refusal, at),
     }
 }
 
-fn of_moved(at: usize, m: Moved) -> Answer
+fn of_moved(at: usize, m: Result<Reader, Refusal>) -> Answer
     ensures { result ≡ of_moved at m }
 {
     match m {
-        Moved::To(next) => Answer {
-            number: 0,
-            value: 0,
-            at: next.at.0,
-            sync: 0,
-            skipped: 0,
-        },
-        Moved::Refused(number) => Answer {
-            number,
-            value: 0,
-            at,
-            sync: 0,
-            skipped: 0,
-        },
+        Ok(next) => given(0, next.at.0),
+        Err(refusal) => refused(refusal, at),
     }
 }
 
-fn of_skipped(at: usize, k: Skipped) -> Answer
-    ensures { result ≡ of_skipped at k }
+fn of_skipped(at: usize, k: Result<Taken<usize>, Refusal>) -> Answer
+    ensures { result ≡ of_taken at k }
 {
     match k {
-        Skipped::Bytes(value, next) => Answer {
-            number: 0,
-            value,
-            at: next.at.0,
-            sync: 0,
-            skipped: 0,
-        },
-        Skipped::Refused(number) => Answer {
-            number,
-            value: 0,
-            at,
-            sync: 0,
-            skipped: 0,
-        },
+        Ok(taken) => given(taken.value, taken.next.at.0),
+        Err(refusal) => refused(refusal, at),
     }
 }
 
-fn of_told(at: usize, t: Told) -> Answer
+fn of_told(at: usize, t: Result<BytePos, Refusal>) -> Answer
     ensures { result ≡ of_told at t }
 {
     match t {
-        Told::At(byte) => Answer {
-            number: 0,
-            value: byte.0,
-            at,
-            sync: 0,
-            skipped: 0,
-        },
-        Told::Refused(number) => Answer {
-            number,
-            value: 0,
-            at,
-            sync: 0,
-            skipped: 0,
-        },
+        Ok(byte) => given(byte.0, at),
+        Err(refusal) => refused(refusal, at),
     }
 }
 
-fn of_sync(at: usize, f: Sync) -> Answer
-    ensures { result ≡ of_sync at f }
+fn of_search(f: Sync) -> Answer
+    ensures { result ≡ of_search f }
 {
     match f {
         Sync::Found {
@@ -161,13 +114,15 @@ fn of_sync(at: usize, f: Sync) -> Answer
             sync: sync.0,
             skipped,
         },
-        Sync::Refused(number) => Answer {
-            number,
-            value: 0,
-            at,
-            sync: 0,
-            skipped: 0,
-        },
+    }
+}
+
+fn of_sync(at: usize, f: Result<Sync, Refusal>) -> Answer
+    ensures { result ≡ of_sync at f }
+{
+    match f {
+        Ok(found) => of_search(found),
+        Err(refusal) => refused(refusal, at),
     }
 }
 
@@ -235,19 +190,18 @@ fn format(known: &[usize; 4]) -> Format
 fn of_attempt(known: Format, attempt: Attempt) -> Headed
     ensures { result ≡ of_attempt known attempt }
 {
-    let header = attempt.header;
     let at = attempt.next.at.0;
     let sync = attempt.sync.0;
-    match header {
-        Header::Accepted(format, size) => Headed {
+    match attempt.header {
+        Ok(accepted) => Headed {
             number: 0,
             at,
-            format,
-            size,
+            format: accepted.format,
+            size: accepted.size,
             sync,
         },
-        Header::Refused(number) => Headed {
-            number,
+        Err(refusal) => Headed {
+            number: refusal.number(),
             at,
             format: known,
             size: 0,

@@ -12,8 +12,6 @@ use Rattle.buffer.specs.declared.BytePos.{BytePos}
 use Rattle.synthesis.specs.Slots.{memory_length, output_length, quiet}
 use Rattle.readings.specs.declared.Reading.{Reading}
 use Rattle.state.specs.declared.Audio.{Audio}
-use Rattle.verdict.specs.declared.Heading.{Heading}
-use Rattle.verdict.specs.declared.Heading.TheVariants.{Known, Refused as HeadingRefused}
 use Rattle.audio.specs.Calls.{open_of, open_memory, decode_memory, decode_output}
 use Rattle.listing.specs.declared.Behind.{Behind}
 use Rattle.listing.specs.declared.Behind.TheVariants.{Nothing, Marks, Words}
@@ -26,6 +24,10 @@ use Rattle.listing.specs.Text.{time_bits, marks_of, bracketed, behind_of}
 use Rattle.listing.specs.Text.{place_text, format_text, frame_text, bare_text, text_by, texts_of, listing_of}
 use Rattle.listing.specs.TextLaws.{short_number, short_hex, short_reason}
 use Rattle.listing.specs.Words.{line_words, mode_words}
+use Rattle.verdict.specs.Verdict.{Heading}
+use Rattle.refusal.specs.Numbers.{number_of}
+use Rattle.refusal.specs.declared.Refusal.{Refusal}
+use Rattle.std.specs.Prelude.{Ok, Err}
 
 abbrev Short : List ℕ → Type 0
 Short text = length text ≤ 60
@@ -104,8 +106,8 @@ few_lines (suc calls) s memory output carried a =
     by_test (λ (xs : List Shown). suc (length xs) ≤ suc calls) (is_last x.line) _ _ (λ _. omega arith) (λ _. omega arith)
 
 one_opening : (k : ℕ) (answer : Heading) (a : Audio) → length (opening_shown k answer a) ≤ 1
-one_opening k Known a = omega arith
-one_opening k (HeadingRefused n) a = by_test (λ (xs : List Shown). length xs ≤ 1) (opening_told n) _ _ (λ _. omega arith) (λ _. omega arith)
+one_opening k (Ok _) a = omega arith
+one_opening k (Err n) a = by_test (λ (xs : List Shown). length xs ≤ 1) (opening_told (number_of n)) _ _ (λ _. omega arith) (λ _. omega arith)
 
 few_called : (c : Reading) (s : List ℕ) → length (called_of c s) ≤ length s / 2 + 3
 unfolding called_of

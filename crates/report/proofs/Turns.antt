@@ -11,7 +11,6 @@ use borrow.Author.Tests.{lt-ltb, le-ltb}
 use Rattle.synthesis.specs.Slots.{memory_length, output_length, quiet}
 use Rattle.readings.specs.declared.Reading.{Reading}
 use Rattle.state.specs.declared.Audio.{Audio}
-use Rattle.verdict.specs.declared.Asked.{Asked}
 use Rattle.audio.specs.Calls.{open_of, open_memory, decode_memory, decode_output}
 use Rattle.listing.specs.declared.Behind.{Behind}
 use Rattle.listing.specs.declared.Listed.{Listed}
@@ -19,6 +18,7 @@ use Rattle.listing.specs.declared.Line.TheVariants.{Long}
 use Rattle.listing.specs.Lines.{Shown, is_last, next_of, shown_from, opening_shown, carried_by, called_of, shown_of}
 use Rattle.listing.specs.Text.{text_by, texts_of, listing_of}
 use Rattle.scribe.specs.Next.{Next, Rest, rest_next, rest_behind, nothing_written, all_written}
+use Rattle.verdict.specs.Verdict.{Asked}
 
 texts_append : (behind : Behind) (xs ys : List Shown) → texts_of behind (xs ++ ys) ≡ texts_of behind xs ++ texts_of behind ys
 unfolding texts_of

@@ -9,7 +9,7 @@ ghost use Rattle.scribe.specs.Next.{Next};
 use listing::{Behind, Line};
 use readings::Reading;
 use scribe::Written;
-use verdict::{Asked, Heading};
+use verdict::Asked;
 
 // "An opening refused with 2 to 5 prints it too", and so does 13; one refused with 1 is told by the first call.
 fn put_opening(
@@ -23,13 +23,12 @@ fn put_opening(
     requires next { Next (listing_of reading behind stream.now) done.bytes (texts_of behind (opening_shown opened.skipped opened.answer opened.state)) }
     ensures { result.bytes ≡ done.bytes + length (texts_of behind (opening_shown opened.skipped opened.answer opened.state)) }
 {
-    let state = opened.state;
-    let answer = opened.answer;
-    match answer {
-        Heading::Known => done,
-        Heading::Refused(number) => {
+    match opened.answer {
+        Ok(()) => done,
+        Err(refusal) => {
+            let number = refusal.number();
             if listing::is_told(number) {
-                let at = listing::byte_of(state);
+                let at = listing::byte_of(opened.state);
                 let samples = [0.0f32; 0];
                 let line = Line::Refused {
                     number,

@@ -1,7 +1,7 @@
 -- Demand 3: the last clip "rings on for 15 blocks of 32 samples, and there it must stop". Two decoders with any two pasts since opening,
 -- whose counts of accepted frames leave the same remainder by 4, accept agreeing frames: both use the same number of bits, samples 481 to
 -- 1,152 of each channel are equal, and while the accepted frames go on agreeing so, every later sample. Assumes nothing.
-use Rattle.std.specs.Prelude.{ℕ, ◌+◌, ◌-◌, ◌*◌, ◌%◌, ◌≤◌, ◌<◌, ◌≡◌, refl, List, ◌++◌, ℤ, Float, length, get_or, take}
+use Rattle.std.specs.Prelude.{ℕ, ◌+◌, ◌-◌, ◌*◌, ◌%◌, ◌≤◌, ◌<◌, ◌≡◌, refl, List, ◌++◌, ℤ, Float, length, get_or, take, Ok}
 use Rattle.std.proofs.Math.Path.{sym, ap}
 use Rattle.std.proofs.Common.{ap₂, ◌∙◌, zero-add, arith}
 use Rattle.std.specs.Float.{nan}
@@ -17,14 +17,13 @@ use Rattle.synthesis.specs.Wash.{output_washed}
 use Rattle.frame.specs.Frame.{codes_in, granules_at, slots_of}
 use Rattle.audio.specs.Calls.{decode_of, format_of}
 use Rattle.state.specs.declared.Audio.{Audio}
-use Rattle.verdict.specs.Verdict.{asked as stands}
-use Rattle.verdict.specs.declared.Asked.{Asked}
-use Rattle.verdict.specs.declared.Heading.TheVariants.{Known}
+use Rattle.verdict.specs.Verdict.{asked as stands, Asked}
 use Rattle.audio.specs.declared.Answer.TheVariants.{Refused as AnswerRefused}
 use Rattle.past.specs.Pasts.{Past}
 use Rattle.past.specs.Calls.{Call, outcome, new_memory, new_output, sample, before, frame_state, first_bit, bits_called, Accepts, before_keeps, accepted_known, known_accepted, granules_in, Leaves, accepted_leaves}
 use Rattle.past.specs.Sound.{sound, sound_state_in_range, frame_has_extension}
 use Rattle.past.specs.Ring.{ring_by_frames}
+use Rattle.refusal.specs.declared.Refusal.{Refusal}
 
 -- ---- agreeing frames
 
@@ -167,7 +166,7 @@ pub data Together : Audio → List Float → Audio → List Float → Type 0 whe
 -- ---- calls that agree
 
 -- two calls before whose frames the same state stands agree, if their streams hold the same n bits there
-pub agree_on : (c d : Call) {j k : ℕ} (b : Audio) → before c ≡ stands j Known b → before d ≡ stands k Known b
+pub agree_on : (c d : Call) {j k : ℕ} (b : Audio) → before c ≡ stands j (Ok tt) b → before d ≡ stands k (Ok tt) b
     → (extension n : ℕ) → b.format.bound ≡ bound_by b.format.mode extension → called (codes_in b.format) c.stream b.reader ≡ n
     → b.reader.at.0 + n ≤ 8 * length c.stream → b.reader.at.0 + n ≤ 8 * length d.stream
     → Agree c.stream b.reader.at.0 d.stream b.reader.at.0 n → Agreeing c d

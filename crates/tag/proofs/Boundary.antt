@@ -14,19 +14,16 @@ use Rattle.riff.specs.Level.{words_of}
 use Rattle.clock.specs.Clock.{start_time_of, are_same_bits, on_time}
 use Rattle.state.specs.State.{fresh, numbers_ok, in_range}
 use Rattle.state.specs.declared.Audio.{Audio}
-use Rattle.verdict.specs.Verdict.{attempt_of, headed_of, enough_of, at_once_of, ready_of, known_of}
-use Rattle.verdict.specs.declared.Asked.{Asked}
-use Rattle.audio.specs.Calls.{no_room_of, open_of, open_memory, format_of, decode_of, decode_memory, decode_output}
+use Rattle.verdict.specs.Verdict.{attempt_of, headed_of, enough_of, at_once_of, ready_of, known_of, Asked}
+use Rattle.audio.specs.Calls.{no_room_of, open_of, open_memory, format_of, decode_of, decode_memory, decode_output, Reply, Decoded}
 use Rattle.readings.specs.declared.Reading.{Reading}
 use Rattle.audio.specs.Numbers.{heading_number, reply_number, reply_rate, reply_kbps, reply_mode, answer_number, answer_start, answer_bits, little_room}
-use Rattle.audio.specs.declared.Reply.{Reply}
-use Rattle.audio.specs.declared.Reply.TheVariants.{Refused as ReplyRefused}
 use Rattle.audio.specs.declared.Answer.{Answer}
 use Rattle.audio.specs.declared.Answer.TheVariants.{Refused as AnswerRefused}
-use Rattle.audio.specs.declared.Decoded.{Decoded}
 use Rattle.tag.specs.declared.Named.{Named}
 use Rattle.tag.specs.declared.Played.{Played}
 use Rattle.tag.specs.Boundary.{state_of, HeldIn, TagOpen, TagDecode, read_back}
+use Rattle.refusal.specs.declared.Refusal.{Refusal}
 
 -- so tag_open and then tag_decode leave what `new` and then `decode` leave; and so on, from any state that a call has left
 pub open_then_decode : (r : Reading) (s : List ℕ) (memory output : List Float) {number : ℕ} {places counts : List ℕ} {time : List Float}

@@ -1,6 +1,6 @@
 -- The decoder's state and answers as numbers: what firmware, or a test in another language, gets across the boundary, and what each
 -- of the four calls promises there. Three are audio's calls; the fourth rounds a frame's samples. Assumes nothing.
-use Rattle.std.specs.Prelude.{ℕ, ◌≡◌, refl, Bool, false, cond, ◌||◌, List, [], ◌∷◌, ◌++◌, ltb, length, take, drop, get_or, pos, Float}
+use Rattle.std.specs.Prelude.{ℕ, ◌≡◌, refl, Bool, false, cond, ◌||◌, List, [], ◌∷◌, ◌++◌, ltb, length, take, drop, get_or, pos, Float, Err}
 use Rattle.std.proofs.Common.{ap, subst, ◌∙◌}
 use Rattle.std.specs.Float.{fin, nan, binary64}
 use Rattle.std.specs.Float.Ieee.{of_bits, to_bits, is_nan, div, of_int}
@@ -15,18 +15,16 @@ use Rattle.riff.specs.Level.{words_of}
 use Rattle.clock.specs.Clock.{start_time_of, are_same_bits, on_time}
 use Rattle.state.specs.State.{fresh, numbers_ok, in_range}
 use Rattle.state.specs.declared.Audio.{Audio}
-use Rattle.verdict.specs.Verdict.{attempt_of, headed_of, enough_of, at_once_of, ready_of, known_of}
-use Rattle.verdict.specs.declared.Asked.{Asked}
-use Rattle.audio.specs.Calls.{no_room_of, open_of, open_memory, format_of, decode_of, decode_memory, decode_output}
+use Rattle.verdict.specs.Verdict.{attempt_of, headed_of, enough_of, at_once_of, ready_of, known_of, Asked}
+use Rattle.audio.specs.Calls.{no_room_of, open_of, open_memory, format_of, decode_of, decode_memory, decode_output, Reply, Decoded}
 use Rattle.readings.specs.declared.Reading.{Reading}
 use Rattle.audio.specs.Numbers.{heading_number, reply_number, reply_rate, reply_kbps, reply_mode, answer_number, answer_start, answer_bits, little_room}
-use Rattle.audio.specs.declared.Reply.{Reply}
-use Rattle.audio.specs.declared.Reply.TheVariants.{Refused as ReplyRefused}
 use Rattle.audio.specs.declared.Answer.{Answer}
 use Rattle.audio.specs.declared.Answer.TheVariants.{Refused as AnswerRefused}
-use Rattle.audio.specs.declared.Decoded.{Decoded}
 use Rattle.tag.specs.declared.Named.{Named}
 use Rattle.tag.specs.declared.Played.{Played}
+use Rattle.refusal.specs.declared.Refusal.TheVariants.{NoSync, CutOff}
+use Rattle.refusal.specs.declared.Refusal.{Refusal}
 
 -- ---- the state as three arrays
 
@@ -203,6 +201,6 @@ two_passed =
     )
 
 -- beside a refusal there are zeros
-pub zeros_beside : (named_of (ReplyRefused 2) ≡ record { number = 2; rate = 0; kbps = 0; mode = 0 })
-    × (played_of (AnswerRefused 7) ≡ record { number = 7; start = fin false 0 (pos 0); bits = 0 })
+pub zeros_beside : (named_of (Err NoSync) ≡ record { number = 2; rate = 0; kbps = 0; mode = 0 })
+    × (played_of (AnswerRefused CutOff) ≡ record { number = 7; start = fin false 0 (pos 0); bits = 0 })
 zeros_beside = (refl, refl)

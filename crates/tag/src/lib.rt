@@ -7,31 +7,29 @@ ghost use Rattle.std.specs.Prelude.{◌≡◌};
 ghost use Rattle.readings.specs.Readings.{reading_by};
 ghost use Rattle.audio.specs.Calls.{open_of, open_memory};
 ghost use Rattle.audio.specs.Numbers.{heading_number};
-ghost use Rattle.tag.specs.Boundary.{state_of, places_of, counts_of, named_of, played_of, TagOpen, TagFormat, TagDecode, TagSamples16};
+ghost use Rattle.tag.specs.Boundary.{state_of, places_of, counts_of, HeldIn, named_of, played_of, TagOpen, TagFormat, TagDecode, TagSamples16};
 
-use audio::{Answer, Reply};
+use audio::{Answer, ClipFormat};
 use buffer::{BitIndex, Reader};
 use header::Format;
 use readings::Reading;
+use refusal::Refusal;
 use state::Audio;
-use verdict::Heading;
 
 fn restore(places: &[usize; 8], counts: &[u32; 8], time: &[f64; 1]) -> Audio
     ensures { result ≡ state_of places.now counts.now time.now }
 {
-    let reader = Reader {
-        at: BitIndex(places[0]),
-    };
-    let reading = Reading { choices: counts[2] };
     let format = Format {
         samplerate: places[1],
         bitrate: places[2],
         mode: counts[0],
-        reading,
+        reading: Reading { choices: counts[2] },
         bound: places[3],
     };
     Audio {
-        reader,
+        reader: Reader {
+            at: BitIndex(places[0]),
+        },
         format,
         frames: counts[1],
         pending: places[4],
@@ -44,17 +42,13 @@ fn restore(places: &[usize; 8], counts: &[u32; 8], time: &[f64; 1]) -> Audio
 fn places_of(a: Audio, skipped: usize) -> [usize; 8]
     ensures { result ≡ places_of skipped a }
 {
-    let reader = a.reader;
-    let f = a.format;
-    let pending = a.pending;
-    let ring = a.ring;
     [
-        reader.at.0,
-        f.samplerate,
-        f.bitrate,
-        f.bound,
-        pending,
-        ring,
+        a.reader.at.0,
+        a.format.samplerate,
+        a.format.bitrate,
+        a.format.bound,
+        a.pending,
+        a.ring,
         0,
         skipped,
     ]
@@ -64,16 +58,30 @@ fn counts_of(a: Audio) -> [u32; 8]
     ensures { result ≡ counts_of a }
 {
     let f = a.format;
-    let reading = f.reading;
-    [f.mode, a.frames, reading.choices, 0, 0, 0, 0, 0]
+    [f.mode, a.frames, f.reading.choices, 0, 0, 0, 0, 0]
 }
 
-fn heading_number(h: Heading) -> u32
+// The state after a call and what the call passed over, into the arrays that it was lent.
+fn save(
+    a: Audio,
+    skipped: usize,
+    places: &mut [usize; 8],
+    counts: &mut [u32; 8],
+    time: &mut [f64; 1],
+)
+    ensures { HeldIn skipped a places.new counts.new time.new }
+{
+    *places = places_of(a, skipped);
+    *counts = counts_of(a);
+    *time = [a.time];
+}
+
+fn heading_number(h: Result<(), Refusal>) -> u32
     ensures { result ≡ heading_number h }
 {
     match h {
-        Heading::Known => 0,
-        Heading::Refused(number) => number,
+        Ok(()) => 0,
+        Err(refusal) => refusal.number(),
     }
 }
 
@@ -91,12 +99,8 @@ pub fn tag_open(
     ensures memory_after { memory.new ≡ open_memory stream.now memory.old }
 {
     let x = audio::new(stream, memory, readings::reading_by(choices));
-    let state = x.state;
-    let answer = x.answer;
-    *places = places_of(state, x.skipped);
-    *counts = counts_of(state);
-    *time = [state.time];
-    heading_number(answer)
+    save(x.state, x.skipped, places, counts, time);
+    heading_number(x.answer)
 }
 
 // A number, and the format in the units of the lister's line; zeros beside a refusal.
@@ -108,18 +112,18 @@ pub struct Named {
     pub mode: u32,
 }
 
-fn of_reply(r: Reply) -> Named
+fn of_reply(r: Result<ClipFormat, Refusal>) -> Named
     ensures { result ≡ named_of r }
 {
     match r {
-        Reply::Format { rate, kbps, mode } => Named {
+        Ok(format) => Named {
             number: 0,
-            rate,
-            kbps,
-            mode,
+            rate: format.rate,
+            kbps: format.kbps,
+            mode: format.mode,
         },
-        Reply::Refused(number) => Named {
-            number,
+        Err(refusal) => Named {
+            number: refusal.number(),
             rate: 0,
             kbps: 0,
             mode: 0,
@@ -142,12 +146,8 @@ pub fn tag_format(
         rate.new kbps.new mode.new }
 {
     let x = audio::format(restore(places, counts, time), stream);
-    let state = x.state;
-    let answer = x.answer;
-    *places = places_of(state, x.skipped);
-    *counts = counts_of(state);
-    *time = [state.time];
-    let n = of_reply(answer);
+    save(x.state, x.skipped, places, counts, time);
+    let n = of_reply(x.answer);
     *rate = [n.rate];
     *kbps = [n.kbps];
     *mode = [n.mode];
@@ -171,8 +171,8 @@ fn of_answer(a: Answer) -> Played
             start: time,
             bits,
         },
-        Answer::Refused(number) => Played {
-            number,
+        Answer::Refused(refusal) => Played {
+            number: refusal.number(),
             start: 0.0,
             bits: 0,
         },
@@ -195,12 +195,8 @@ pub fn tag_decode(
         places.new counts.new time.new start.new bits.new }
 {
     let x = audio::decode(restore(places, counts, time), stream, memory, output);
-    let state = x.state;
-    let answer = x.answer;
-    *places = places_of(state, x.skipped);
-    *counts = counts_of(state);
-    *time = [state.time];
-    let p = of_answer(answer);
+    save(x.state, x.skipped, places, counts, time);
+    let p = of_answer(x.answer);
     *start = [p.start];
     *bits = [p.bits];
     p.number

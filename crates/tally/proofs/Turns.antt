@@ -11,9 +11,6 @@ use Rattle.ground.specs.Tests.{by_test}
 use Rattle.synthesis.specs.Slots.{memory_length, output_length, quiet}
 use Rattle.readings.specs.declared.Reading.{Reading}
 use Rattle.state.specs.declared.Audio.{Audio}
-use Rattle.verdict.specs.declared.Asked.{Asked}
-use Rattle.verdict.specs.declared.Heading.{Heading}
-use Rattle.verdict.specs.declared.Heading.TheVariants.{Known, Refused}
 use Rattle.audio.specs.Calls.{open_of, open_memory, decode_memory, decode_output}
 use Rattle.audio.specs.CallsLaws.{open_passes_few}
 use Rattle.listing.specs.declared.Line.{Line}
@@ -24,6 +21,10 @@ use Rattle.listing.specs.Tally.{skipped_in, junk_in}
 use Rattle.tally.specs.Tally.{add_of, tally_of, Few}
 use Rattle.tally.specs.declared.Tally.{Tally}
 use Rattle.tally.proofs.Adds.{added, junk_few, few}
+use Rattle.verdict.specs.Verdict.{Heading, Asked}
+use Rattle.refusal.specs.Numbers.{number_of}
+use Rattle.refusal.specs.declared.Refusal.{Refusal}
+use Rattle.std.specs.Prelude.{Ok, Err}
 
 lines_append : (xs ys : List Shown) → lines_in (xs ++ ys) ≡ lines_in xs ++ lines_in ys
 lines_append [] ys = refl
@@ -41,9 +42,9 @@ called_lines c s =
 -- an opening has one line at most, and so little junk
 one_opening : (k : ℕ) (answer : Heading) (a : Audio) → let xs = lines_in (opening_shown k answer a) in (length xs ≤ 1) × (junk_in xs ≤ k)
 unfolding junk_in
-one_opening k Known a = (omega arith, omega arith)
-one_opening k (Refused n) a =
-    by_test (λ (xs : List Shown). (length (lines_in xs) ≤ 1) × (junk_in (lines_in xs) ≤ k)) (opening_told n) _ _ (λ _. (omega arith, omega arith))
+one_opening k (Ok _) a = (omega arith, omega arith)
+one_opening k (Err n) a =
+    by_test (λ (xs : List Shown). (length (lines_in xs) ≤ 1) × (junk_in (lines_in xs) ≤ k)) (opening_told (number_of n)) _ _ (λ _. (omega arith, omega arith))
     (λ _. (omega arith, omega arith))
 
 -- the lines that were added, and those that are left

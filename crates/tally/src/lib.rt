@@ -8,7 +8,7 @@ ghost use Rattle.tally.specs.Tally.{keep_of, keep_at, junk_more, add_of, tally_o
 
 use listing::Line;
 use readings::Reading;
-use verdict::{Asked, Heading};
+use verdict::Asked;
 
 // How many values there were, and the first of them.
 #[derive(Clone, Copy)]
@@ -123,13 +123,12 @@ fn nothing() -> Tally
 fn opening(opened: Asked) -> Tally
     ensures { result ≡ tally_of (lines_in (opening_shown opened.skipped opened.answer opened.state)) }
 {
-    let state = opened.state;
-    let answer = opened.answer;
-    match answer {
-        Heading::Known => nothing(),
-        Heading::Refused(number) => {
+    match opened.answer {
+        Ok(()) => nothing(),
+        Err(refusal) => {
+            let number = refusal.number();
             if listing::is_told(number) {
-                let at = listing::byte_of(state);
+                let at = listing::byte_of(opened.state);
                 let line = Line::Refused {
                     number,
                     at,

@@ -50,7 +50,7 @@ unfoldable pub enough_of : List ℕ → ℕ → Audio → Asked
 enough_of s skipped a = holding skipped a (has_of s a.reader (8 * a.pending))
 
 abbrev pub going_on : List ℕ → ℕ → Heading → Audio → Asked
-going_on s skipped (Ok tt) a = enough_of s skipped a
+going_on s skipped (Ok _) a = enough_of s skipped a
 going_on s skipped (Err n) a = asked skipped (Err n) a
 
 abbrev pub pended : List ℕ → Asked → Asked

@@ -180,7 +180,7 @@ module _ {s : List ℕ} {memory output : ℕ} {a : Audio} (c : Called s memory o
       k = (attempt_of s a).skipped
 
       go : a.pending ≡ 0 → (h : Heading) → (attempt_of s a).answer ≡ h → Verdict s memory output a (going_on s k h (attempt_of s a).state)
-      go z (Ok tt) e = after_header (accepts z (ap (λ (y : Heading). asked k y (attempt_of s a).state) e))
+      go z (Ok _) e = after_header (accepts z (ap (λ (y : Heading). asked k y (attempt_of s a).state) e))
       go z (Err n) e = no_header c z (ap (λ (y : Heading). asked k y (attempt_of s a).state) e)
 
   called_ready : ready_of s memory output a ≡ pended s (headed_of s a)

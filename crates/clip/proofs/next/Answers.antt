@@ -1,4 +1,5 @@
-use mathlib.Core.Path.{◌∙◌}
+use mathlib.Core.Path.{ap, ◌∙◌}
+use Rattle.audio.specs.Numbers.{ends}
 use native.Mathlib.Omega.{arith}
 use borrow.Author.Rules.{rules}
 use Rattle.clip.proofs.Turns.{frame_rate, frame_found, end_found, goes_past, by_parts, no_call_left}
@@ -21,7 +22,7 @@ loop-calls-preserved c =
     let e = c.decode-decoded.ensures in (
       search rules,
       search rules,
-      goes_past _ _ _ _ _ (omega arith) _ _ _ e.value e.memory_after e.output_after _ _ c.in-Refused.is c.ends.ensures c.if-ends.false
+      goes_past _ _ _ _ _ (omega arith) _ _ _ e.value e.memory_after e.output_after _ _ c.in-Refused.is (c.ends.ensures ∙ ap ends c.number.ensures) c.if-ends.false
           ∙ c.loop-calls.invariant.2,
     )
 
@@ -34,6 +35,6 @@ pub returns-then-ends : goal.returns-then-ends
 returns-then-ends c =
     let e = c.decode-decoded.ensures in
     let whole = by_parts
-    (end_found _ _ _ _ _ (omega arith) _ _ _ e.value e.memory_after e.output_after _ _ c.in-Refused.is c.ends.ensures c.if-ends.true
+    (end_found _ _ _ _ _ (omega arith) _ _ _ e.value e.memory_after e.output_after _ _ c.in-Refused.is (c.ends.ensures ∙ ap ends c.number.ensures) c.if-ends.true
     ∙ c.loop-calls.invariant.2) in
     record { value = whole.0; memory_after = whole.1.0; output_after = whole.1.1 }

@@ -17,7 +17,7 @@ frame_line number bits rate kbps skipped time a end at e f g h = rw (f, e, g, h)
 pub returns-then-ends : goal.returns-then-ends
 returns-then-ends c =
     let skipped = c.args.skipped in
-    rw (c.in-Refused.is, sym c.ends.ensures ∙ c.if-ends.true) (ap (λ at. End c.in-Refused.n at skipped) c.byte_of-end.ensures)
+    rw (c.in-Refused.is, ← c.number-n.ensures, sym c.ends.ensures ∙ c.if-ends.true) (ap (λ at. End c.number-n.result at skipped) c.byte_of-end.ensures)
 
 pub returns-in-Frame : goal.returns-in-Frame
 returns-in-Frame c =
@@ -27,4 +27,4 @@ returns-in-Frame c =
 pub returns-else-ends : goal.returns-else-ends
 returns-else-ends c =
     let skipped = c.args.skipped in
-    rw (c.in-Refused.is, sym c.ends.ensures ∙ c.if-ends.false) (ap (λ at. Refused c.in-Refused.n at skipped) c.byte_of-end.ensures)
+    rw (c.in-Refused.is, ← c.number-n.ensures, sym c.ends.ensures ∙ c.if-ends.false) (ap (λ at. Refused c.number-n.result at skipped) c.byte_of-end.ensures)

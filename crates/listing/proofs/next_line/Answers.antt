@@ -1,10 +1,10 @@
 use mathlib.Core.Path.{ap, ◌∙◌}
 use native.Mathlib.Omega.{arith}
 use Rattle.audio.specs.CallsLaws.{decode_passes_few}
-use Rattle.audio.specs.declared.Decoded.{Decoded}
 use Rattle.listing.specs.declared.Listed.{Listed}
 use Rattle.listing.specs.Lines.{next_of, with_line}
 use Rattle.listing.proofs.next_line.Goals as goal
+use Rattle.audio.specs.Calls.{Decoded}
 
 -- a slice has fewer than 2^63 bytes
 pub overflow_add-carried : goal.overflow_add-carried

@@ -5,8 +5,6 @@ use mathlib.Core.List.{[], append-nil}
 use native.Mathlib.Omega.{arith}
 use lib.ListN.{length}
 use Rattle.state.specs.declared.Audio.{Audio}
-use Rattle.verdict.specs.declared.Heading.{Heading}
-use Rattle.verdict.specs.declared.Heading.TheVariants.{Known, Refused}
 use Rattle.buffer.specs.declared.BytePos.{BytePos}
 use Rattle.listing.specs.declared.Behind.{Behind}
 use Rattle.listing.specs.declared.Line.TheVariants.{Refused as RefusedLine}
@@ -14,42 +12,46 @@ use Rattle.listing.specs.Lines.{byte_position, opening_told, opening_shown}
 use Rattle.listing.specs.Text.{text_by, texts_of}
 use Rattle.scribe.specs.Next.{Next}
 use Rattle.report.proofs.put_opening.Goals as goal
+use Rattle.verdict.specs.Verdict.{Heading}
+use Rattle.refusal.specs.Numbers.{number_of}
+use Rattle.refusal.specs.declared.Refusal.{Refusal}
+use Rattle.std.specs.Prelude.{Ok, Err}
 
 module _ (behind : Behind) (k : ℕ) (answer : Heading) (a : Audio) where
-  known : answer ≡ Known → texts_of behind (opening_shown k answer a) ≡ []
+  known : answer ≡ Ok tt → texts_of behind (opening_shown k answer a) ≡ []
   unfolding texts_of
   known e = rw e
 
-  module _ (n : ℕ) (told : Bool) (e : answer ≡ Refused n) (t : told ≡ opening_told n) where
+  module _ (n : Refusal) (number : ℕ) (named : number ≡ number_of n) (told : Bool) (e : answer ≡ Err n) (is : told ≡ opening_told number) where
     untold : told ≡ false → texts_of behind (opening_shown k answer a) ≡ []
     unfolding texts_of
-    untold h = rw (e, sym t ∙ h)
+    untold h = rw (e, ← named, sym is ∙ h)
 
-    refusal : (at : BytePos) → at ≡ byte_position a → told ≡ true → texts_of behind (opening_shown k answer a) ≡ text_by behind (RefusedLine n at k) []
+    refusal : (at : BytePos) → at ≡ byte_position a → told ≡ true → texts_of behind (opening_shown k answer a) ≡ text_by behind (RefusedLine number at k) []
     unfolding texts_of
-    refusal at p h = rw (e, sym t ∙ h, p) (append-nil _)
+    refusal at p h = rw (e, ← named, sym is ∙ h, p) (append-nil _)
 
 pub put_line-requires : goal.put_line-requires
 put_line-requires c =
-    let text_is : texts_of c.args.behind (opening_shown c.args.opened.skipped c.args.opened.answer c.args.opened.state) ≡ text_by c.args.behind (RefusedLine c.in-Refused.number c.byte_of-at.result c.args.opened.skipped) [] =
-    refusal _ _ _ _ _ _ c.in-Refused.is c.is_told.ensures _ c.byte_of-at.ensures c.if-is_told.true in
+    let text_is : texts_of c.args.behind (opening_shown c.args.opened.skipped c.args.opened.answer c.args.opened.state) ≡ text_by c.args.behind (RefusedLine c.number-number.result c.byte_of-at.result c.args.opened.skipped) [] =
+    refusal _ _ _ _ _ _ c.number-number.ensures _ c.in-Err.is c.is_told.ensures _ c.byte_of-at.ensures c.if-is_told.true in
     record { stream_len_bound = c.requires.stream_len_bound; next = subst (Next _ _) text_is c.requires.next }
 
 pub returns-then-is_told : goal.returns-then-is_told
 returns-then-is_told c =
-    let text_is : texts_of c.args.behind (opening_shown c.args.opened.skipped c.args.opened.answer c.args.opened.state) ≡ text_by c.args.behind (RefusedLine c.in-Refused.number c.byte_of-at.result c.args.opened.skipped) [] =
-    refusal _ _ _ _ _ _ c.in-Refused.is c.is_told.ensures _ c.byte_of-at.ensures c.if-is_told.true in
+    let text_is : texts_of c.args.behind (opening_shown c.args.opened.skipped c.args.opened.answer c.args.opened.state) ≡ text_by c.args.behind (RefusedLine c.number-number.result c.byte_of-at.result c.args.opened.skipped) [] =
+    refusal _ _ _ _ _ _ c.number-number.ensures _ c.in-Err.is c.is_told.ensures _ c.byte_of-at.ensures c.if-is_told.true in
     omega (arith, c.put_line.ensures, ap length text_is)
 
-pub returns-in-Known : goal.returns-in-Known
-returns-in-Known c =
+pub returns-in-Ok : goal.returns-in-Ok
+returns-in-Ok c =
     let a = c.args in
-    omega (arith, ap length (known a.behind a.opened.skipped a.opened.answer a.opened.state c.in-Known.is))
+    omega (arith, ap length (known a.behind a.opened.skipped a.opened.answer a.opened.state c.in-Ok.is))
 
 pub returns-else-is_told : goal.returns-else-is_told
 returns-else-is_told c =
     let a = c.args in
     omega (
       arith,
-      ap length (untold a.behind a.opened.skipped a.opened.answer a.opened.state _ _ c.in-Refused.is c.is_told.ensures c.if-is_told.false),
+      ap length (untold a.behind a.opened.skipped a.opened.answer a.opened.state _ _ c.number-number.ensures _ c.in-Err.is c.is_told.ensures c.if-is_told.false),
     )

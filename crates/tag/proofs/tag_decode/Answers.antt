@@ -1,7 +1,7 @@
-use mathlib.Core.Path.{◌∙◌, ap}
+use mathlib.Core.Path.{◌∙◌, ap, subst}
 use mathlib.Core.List.{[], ◌∷◌}
 use Rattle.audio.specs.Calls.{decode_of, decode_memory, decode_output}
-use Rattle.tag.specs.Boundary.{places_of, counts_of, time_of, played_of}
+use Rattle.tag.specs.Boundary.{HeldIn, played_of}
 use Rattle.tag.proofs.tag_decode.Goals as goal
 
 -- what audio promises of the state that was restored, handed on field by field
@@ -17,11 +17,7 @@ returns c =
       memory_is = call.memory_after ∙ ap (decode_memory begun.stream.now begun.memory.now begun.output.now) same;
       output_is = call.output_after ∙ ap (decode_output begun.stream.now begun.memory.now begun.output.now) same;
       state_is =
-          record {
-            places_hold = c.places_of.ensures ∙ ap (λ x. places_of x.skipped x.state) decoded;
-            counts_hold = c.counts_of.ensures ∙ ap (λ x. counts_of x.state) decoded;
-            time_holds = ap (λ x. time_of x.state) decoded;
-          };
+          subst (λ x. HeldIn x.skipped x.state c.save.new.places c.save.new.counts c.save.new.time) decoded c.save.ensures;
       start_is = ap (λ y. y.start ∷ []) played;
       bits_are = ap (λ y. y.bits ∷ []) played;
     }

@@ -1,7 +1,7 @@
-use mathlib.Core.Path.{◌∙◌, ap}
+use mathlib.Core.Path.{◌∙◌, ap, subst}
 use mathlib.Core.List.{[], ◌∷◌}
 use Rattle.audio.specs.Calls.{format_of}
-use Rattle.tag.specs.Boundary.{places_of, counts_of, time_of, named_of}
+use Rattle.tag.specs.Boundary.{HeldIn, named_of}
 use Rattle.tag.proofs.tag_format.Goals as goal
 
 pub returns : goal.returns
@@ -12,11 +12,7 @@ returns c =
     record {
       number_is = ap (λ n. n.number) named;
       state_is =
-          record {
-            places_hold = c.places_of.ensures ∙ ap (λ x. places_of x.skipped x.state) answered;
-            counts_hold = c.counts_of.ensures ∙ ap (λ x. counts_of x.state) answered;
-            time_holds = ap (λ x. time_of x.state) answered;
-          };
+          subst (λ x. HeldIn x.skipped x.state c.save.new.places c.save.new.counts c.save.new.time) answered c.save.ensures;
       rate_is = ap (λ n. n.rate ∷ []) named;
       kbps_is = ap (λ n. n.kbps ∷ []) named;
       mode_is = ap (λ n. n.mode ∷ []) named;

@@ -1,7 +1,7 @@
-use mathlib.Core.Path.{◌∙◌, ap}
+use mathlib.Core.Path.{◌∙◌, ap, subst}
 use Rattle.audio.specs.Calls.{open_of}
 use Rattle.audio.specs.Numbers.{heading_number}
-use Rattle.tag.specs.Boundary.{places_of, counts_of, time_of}
+use Rattle.tag.specs.Boundary.{HeldIn}
 use Rattle.tag.proofs.tag_open.Goals as goal
 
 pub returns : goal.returns
@@ -11,11 +11,7 @@ returns c =
       fact = record {
         number_is = c.heading_number.ensures ∙ ap (λ x. heading_number x.answer) opened;
         state_is =
-            record {
-              places_hold = c.places_of.ensures ∙ ap (λ x. places_of x.skipped x.state) opened;
-              counts_hold = c.counts_of.ensures ∙ ap (λ x. counts_of x.state) opened;
-              time_holds = ap (λ x. time_of x.state) opened;
-            };
+            subst (λ x. HeldIn x.skipped x.state c.save.new.places c.save.new.counts c.save.new.time) opened c.save.ensures;
       };
       memory_after = c.new-x.ensures.memory_after;
     }

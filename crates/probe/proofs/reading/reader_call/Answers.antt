@@ -1,6 +1,6 @@
 use Rattle.std.proofs.Common.{rules}
 use Rattle.std.proofs.Common.{sym, ap, ◌∙◌}
-use Rattle.probe.specs.Answers.{call_of, of_holds, of_read, of_moved, of_skipped, of_told, of_sync}
+use Rattle.probe.specs.Answers.{call_of, of_holds, of_taken, of_moved, of_told, of_sync}
 use Rattle.probe.proofs.Calls.{call_other}
 use Rattle.probe.proofs.reading.reader_call.Goals as goal
 
@@ -14,7 +14,7 @@ returns-in-1 c = rw c.in-1.is (c.of_holds-in-1.ensures ∙ ap (of_holds _) c.has
 
 pub returns-in-2 : goal.returns-in-2
 unfolding call_of
-returns-in-2 c = rw c.in-2.is (c.of_read.ensures ∙ ap (of_read _) c.read.ensures)
+returns-in-2 c = rw c.in-2.is (c.of_read.ensures ∙ ap (of_taken _) c.read.ensures)
 
 pub returns-in-3 : goal.returns-in-3
 unfolding call_of
@@ -26,7 +26,7 @@ returns-in-4 c = rw c.in-4.is (c.of_moved-in-4.ensures ∙ ap (of_moved _) c.ski
 
 pub returns-in-5 : goal.returns-in-5
 unfolding call_of
-returns-in-5 c = rw c.in-5.is (c.of_skipped.ensures ∙ ap (of_skipped _) c.skip_bytes.ensures)
+returns-in-5 c = rw c.in-5.is (c.of_skipped.ensures ∙ ap (of_taken _) c.skip_bytes.ensures)
 
 pub returns-in-6 : goal.returns-in-6
 unfolding call_of
