@@ -36,7 +36,7 @@ module _ (s : List ℕ) (a : Audio) (tells : Tells s a) where
   unfolding format_of
   is_known = by (known_of s a).answer tells.answer
     where
-      by : (h : Heading) → saying h (known_of s a).state.format ≡ ReplyFormat tells.rate tells.kbps tells.mode → h ≡ Ok tt
+      by : (h : Heading) → saying h (known_of s a).state.format ≡ Ok (clip_format tells.rate tells.kbps tells.mode) → h ≡ Ok tt
       by (Ok _) e = refl
       by (Err n) e = absurd (let z : ◌≡◌ {A = ℕ} 0 1 = cc in omega arith)
 
@@ -82,7 +82,7 @@ module _ (s : List ℕ) (a : Audio) (tells : Tells s a) where
 
 -- a refused question is a refused call of decode: the same number, the same state left, as many bytes passed over
 pub refused_alike : (s : List ℕ) (memory output : List Float) (a : Audio) → Lent s memory output → in_range a ≡ true
-    → (n : ℕ) → (format_of s a).answer ≡ Err n → decode_of s memory output a ≡ refused (format_of s a).skipped n (format_of s a).state
+    → (n : Refusal) → (format_of s a).answer ≡ Err n → decode_of s memory output a ≡ refused (format_of s a).skipped n (format_of s a).state
 refused_alike s memory output a lent within n e = by (question_table s a).holds e
   where
     by : {k : ℕ} {x : Replied} → Asks s a k x → x.answer ≡ Err n → decode_of s memory output a ≡ refused x.skipped n x.state

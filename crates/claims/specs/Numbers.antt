@@ -14,7 +14,7 @@ use Rattle.header.specs.declared.Format.{Format}
 use Rattle.header.specs.declared.Attempt.{Attempt}
 use Rattle.state.specs.State.{fresh, in_range, stands_at, pends}
 use Rattle.verdict.specs.Verdict.{asked, seeking, tried, attempt_of, at_once_of, known_of, Asked}
-use Rattle.audio.specs.Calls.{answering, remembering, sounding, after_of, framed_of, framed_memory, framed_output, decode_of, decode_memory, decode_output, open_of, replying, format_of, no_room_of, Reply, Replied, Decoded}
+use Rattle.audio.specs.Calls.{answering, remembering, sounding, after_of, framed_of, framed_memory, framed_output, decode_of, decode_memory, decode_output, open_of, replying, format_of, no_room_of, Reply, Replied, Decoded, clip_format}
 use Rattle.audio.specs.Numbers.{heading_number, reply_number, answer_number}
 use Rattle.state.specs.StateLaws.{ranged, ranged_in_range}
 use Rattle.audio.specs.CallsLaws.{by_opening}
@@ -28,9 +28,10 @@ use Rattle.buffer.specs.Bits.{longest_stream}
 use Rattle.header.specs.Attempts.{Attempts, attempt_table, attempt_number, first_gives, first_number}
 use Rattle.past.specs.Pasts.{Past}
 use Rattle.past.specs.Sound.{fresh_in_range, sound_state_in_range}
-use Rattle.refusal.specs.declared.Refusal.TheVariants.{LongStream, LittleRoom}
+use Rattle.refusal.specs.declared.Refusal.TheVariants.{LongStream, LittleRoom, CutOff, BadState}
 use Rattle.refusal.specs.declared.Refusal.{Refusal}
 use Rattle.header.specs.declared.Accepted.{Accepted}
+use Rattle.refusal.specs.Numbers.{number_of}
 
 -- ---- decode
 
@@ -55,23 +56,23 @@ pub data Pending (s : List ℕ) (a : Audio) : ℕ → Audio → Type 0 where
       → Pending s a (passed a sync) (pends r f size a)
 
 -- so many bytes passed over, a number, and the state
-abbrev pub refused : ℕ → ℕ → Audio → Decoded
+abbrev pub refused : ℕ → Refusal → Audio → Decoded
 refused skipped n a = record { answer = AnswerRefused n; state = a; skipped = skipped }
 
 pub data Decodes (s : List ℕ) (memory output : List Float) (a : Audio) : ℕ → Decoded → Type 0 where
   -- "stream above 16,777,216 bytes": "same state"
-  eight : longest_stream < length s → Decodes s memory output a 8 (refused 0 8 a)
+  eight : longest_stream < length s → Decodes s memory output a 8 (refused 0 LongStream a)
   -- "synthesis memory under 2,048 or output under 2,304": "same state"
-  nine : length s ≤ longest_stream → (length memory < memory_length) ⊎ (length output < output_length) → Decodes s memory output a 9 (refused 0 9 a)
+  nine : length s ≤ longest_stream → (length memory < memory_length) ⊎ (length output < output_length) → Decodes s memory output a 9 (refused 0 LittleRoom a)
   -- "state out of range": "same state"
-  ten : Lent s memory output → in_range a ≡ false → Decodes s memory output a 10 (refused 0 10 a)
+  ten : Lent s memory output → in_range a ≡ false → Decodes s memory output a 10 (refused 0 BadState a)
   -- 1 to 6, 13: no header pending, and the attempt gives it: "position moved", "old format kept"; with 1 the position is the same, and no byte
   -- is passed over
-  sought : {n : ℕ} {sync : BytePos} {r : Reader} → InOrder s memory output a → a.pending ≡ 0
-      → Attempts s a.reader a.format n (refusal n sync r) → Decodes s memory output a n (refused (passed a sync) n (stands_at r a))
+  sought : {n : Refusal} {sync : BytePos} {r : Reader} → InOrder s memory output a → a.pending ≡ 0
+      → Attempts s a.reader a.format (number_of n) (refusal n sync r) → Decodes s memory output a (number_of n) (refused (passed a sync) n (stands_at r a))
   -- "header pending, fewer bits remain than 8 times its data size": "state as after that header, still pending". So a repeated 7 passes none
   seven : {k : ℕ} {b : Audio} → InOrder s memory output a → Pending s a k b → left s b.reader < 8 * b.pending
-      → Decodes s memory output a 7 (refused k 7 b)
+      → Decodes s memory output a 7 (refused k CutOff b)
   -- "frame decoded"
   zero : {k : ℕ} {b : Audio} → InOrder s memory output a → Pending s a k b → 8 * b.pending ≤ left s b.reader
       → Decodes s memory output a 0 (framed_of s k b)
@@ -100,8 +101,8 @@ module _ (s : List ℕ) (a : Audio) (short : length s ≤ longest_stream) (withi
             subst (λ (x : Asked). Pending s a x.skipped x.state) e (accepts z row)
         by (Err n) c r row e = absurd (not_known (ap (λ (x : Asked). x.answer) e))
 
-    refused_row : {k n : ℕ} (P : Asked → Type 0)
-        → ((n : ℕ) (c : BytePos) (r : Reader) → Attempts s a.reader a.format n (refusal n c r) → P (asked (passed a c) (Err n) (stands_at r a)))
+    refused_row : {k : ℕ} {n : Refusal} (P : Asked → Type 0)
+        → ((n : Refusal) (c : BytePos) (r : Reader) → Attempts s a.reader a.format (number_of n) (refusal n c r) → P (asked (passed a c) (Err n) (stands_at r a)))
         → attempt_of s a ≡ asked k (Err n) b → P (asked k (Err n) b)
     unfolding attempt_of
     refused_row {k} {n} P row e = by t.header t.sync t.next rows.holds e
@@ -191,15 +192,15 @@ module _ (s : List ℕ) (a : Audio) (short : length s ≤ longest_stream) (withi
 
 -- the format in the units of the lister's line
 abbrev pub told : Format → Reply
-told f = ReplyFormat (rate_of f.samplerate) (kbps_of f.bitrate) f.mode
+told f = Ok (clip_format (rate_of f.samplerate) (kbps_of f.bitrate) f.mode)
 
-abbrev pub unanswered : ℕ → ℕ → Audio → Replied
+abbrev pub unanswered : ℕ → Refusal → Audio → Replied
 unanswered skipped n a = record { answer = Err n; state = a; skipped = skipped }
 
 pub data Asks (s : List ℕ) (a : Audio) : ℕ → Replied → Type 0 where
   -- "same state"; also where a format is known
-  eight : longest_stream < length s → Asks s a 8 (unanswered 0 8 a)
-  ten : length s ≤ longest_stream → in_range a ≡ false → Asks s a 10 (unanswered 0 10 a)
+  eight : longest_stream < length s → Asks s a 8 (unanswered 0 LongStream a)
+  ten : length s ≤ longest_stream → in_range a ≡ false → Asks s a 10 (unanswered 0 BadState a)
   -- known since an earlier header: nothing is sought
   known : length s ≤ longest_stream → in_range a ≡ true → (a.format.samplerate ≡ 3 → ⊥) → Asks s a 0 (record { answer = told a.format; state = a; skipped = 0 })
   -- sought and accepted: its header is pending
@@ -207,8 +208,8 @@ pub data Asks (s : List ℕ) (a : Audio) : ℕ → Replied → Type 0 where
       → Attempts s a.reader a.format 0 (record { header = Ok (accepted_header f size); sync = sync; next = r })
       → Asks s a 0 (record { answer = told f; state = pends r f size a; skipped = passed a sync })
   -- sought and refused, 1 to 5 or 13: "position moved"; with 1 it is the same
-  sought : {n : ℕ} {sync : BytePos} {r : Reader} → length s ≤ longest_stream → in_range a ≡ true → a.format.samplerate ≡ 3
-      → Attempts s a.reader a.format n (refusal n sync r) → Asks s a n (unanswered (passed a sync) n (stands_at r a))
+  sought : {n : Refusal} {sync : BytePos} {r : Reader} → length s ≤ longest_stream → in_range a ≡ true → a.format.samplerate ≡ 3
+      → Attempts s a.reader a.format (number_of n) (refusal n sync r) → Asks s a (number_of n) (unanswered (passed a sync) n (stands_at r a))
 
 module _ (s : List ℕ) (a : Audio) where
   Replies : Asked → Type 0

@@ -51,7 +51,7 @@ pub record Demand1 : Type 0 where
   pub an_end_is_one_for_ever : (s : List ℕ) (m o : List Float) (a : Audio) → let x = decode_of s m o a in
       ends (answer_number x.answer) ≡ true → Rests s (answer_number x.answer) x.state
   -- "A refused call leaves the samples untouched, and the synthesis memory too,"
-  pub refused_leaves_all : (c : Call) (n : ℕ) → (outcome c).answer ≡ Refused n → (new_memory c ≡ c.memory) × (new_output c ≡ c.output)
+  pub refused_leaves_all : (c : Call) (n : Refusal) → (outcome c).answer ≡ Refused n → (new_memory c ≡ c.memory) × (new_output c ≡ c.output)
   -- "but that an opening which only found no good header still clears the memory."
   pub opening_clears_memory : (s : List ℕ) (m : List Float) → length s ≤ longest_stream → memory_length ≤ length m
       → (i : ℕ) → i < memory_length → get_or (open_memory s m) i nan ≡ fin false 0 (pos 0)

@@ -29,7 +29,7 @@ module _ (s : List ℕ) (memory output : List Float) (a : Audio) where
   by_verdict k (Ok _) b n e = absurd (let z : ◌≡◌ {A = ℕ} 0 1 = cc in omega arith)
   by_verdict k (Err m) b n e = (refl, refl)
 
-  pub refused_call_leaves_all : (n : ℕ) → (decode_of s memory output a).answer ≡ AnswerRefused n
+  pub refused_call_leaves_all : (n : Refusal) → (decode_of s memory output a).answer ≡ AnswerRefused n
       → (decode_memory s memory output a ≡ memory) × (decode_output s memory output a ≡ output)
   unfolding decode_of decode_memory decode_output
   refused_call_leaves_all n e =

@@ -27,6 +27,7 @@ use Rattle.past.specs.Sound.{opening_is_in_range, decode_stays_in_range}
 use Rattle.past.specs.Moves.{call_moves}
 use Rattle.past.specs.Formats.{decode_lengths, format_stays, frame_known}
 use Rattle.verdict.specs.VerdictLaws.{Called}
+use Rattle.refusal.specs.Numbers.{number_of}
 
 -- ---- one call after the other
 
@@ -59,8 +60,8 @@ same_heard : (x : Answer) (a : Audio) (o : List Float) (more others : List Heard
 same_heard (FrameAnswer time bits) a o more others e =
     ap (hearing (FrameAnswer time bits) a o) (e (λ z. omega arith) (λ z. omega arith))
 same_heard (RefusedAnswer n) a o more others e =
-    by_test (λ (xs : List Heard). xs ≡ cond (ends n) [] others) (ends n) _ _ (λ t. rw t) (λ t.
-    let h = neither (eqb n 1) (eqb n 7) t in rw t (e (eqb-false n 1 h.0) (eqb-false n 7 h.1)))
+    by_test (λ (xs : List Heard). xs ≡ cond (ends (number_of n)) [] others) (ends (number_of n)) _ _ (λ t. rw t) (λ t.
+    let h = neither (eqb (number_of n) 1) (eqb (number_of n) 7) t in rw t (e (eqb-false (number_of n) 1 h.0) (eqb-false (number_of n) 7 h.1)))
 
 -- neither 8 nor 9 nor 10
 abbrev pub Begun : Call → Type 0
@@ -122,7 +123,7 @@ by_answer : (P : List Heard → Type 0) (x : Answer) (a : Audio) (o : List Float
     → ((time : Float) (bits : ℕ) → x ≡ FrameAnswer time bits → P (record { rate = rate_of a.format.samplerate; samples = o } ∷ more))
     → P (hearing x a o more)
 by_answer P (FrameAnswer time bits) a o more none rest frame = frame time bits refl
-by_answer P (RefusedAnswer n) a o more none rest frame = by_test P (ends n) _ _ (λ _. none) (λ _. rest)
+by_answer P (RefusedAnswer n) a o more none rest frame = by_test P (ends (number_of n)) _ _ (λ _. none) (λ _. rest)
 
 by_call : (P : List Heard → Type 0) (calls : ℕ) (c : Call) → P [] → P (heard_from calls (after c))
     → (Accepts c → P (heard_at c ∷ heard_from calls (after c))) → P (heard_from (suc calls) c)

@@ -150,7 +150,7 @@ module _ {c d : Call} (past : Past c.state c.memory) (past' : Past d.state d.mem
 -- calls the lent slice may change behind the memory
 pub data Passes (a : Audio) (m : List Float) : Audio → List Float → Type 0 where
   asks : (s : List ℕ) → Passes a m (format_of s a).state m
-  refuses : (s : List ℕ) (other o : List Float) (number : ℕ) → (decode_of s other o a).answer ≡ AnswerRefused number → Passes a m (decode_of s other o a).state m
+  refuses : (s : List ℕ) (other o : List Float) (number : Refusal) → (decode_of s other o a).answer ≡ AnswerRefused number → Passes a m (decode_of s other o a).state m
   lends : (more : List Float) → Passes a m a (take memory_length m ++ more)
 
 -- two decoders that accepted agreeing frames, and since then, each on its own streams, any calls that accept no frame, and pair by
