@@ -92,7 +92,7 @@ refused_alike s memory output a lent within n e = by (question_table s a).holds 
     by (accepted l w k t) e = absurd (let z : ◌≡◌ {A = ℕ} 0 1 = cc in omega arith)
     by (sought {n = k} {sync = sync} {r = r} l w none t) e =
         sym ((decode_table s memory output a).only (Decodes.sought (record { room = lent; within = within }) ((ranged a w).known none) t)).0
-        ∙ ap (λ (i : ℕ). refused (passed a sync) i (stands_at r a)) (let same : k ≡ n = cc in same)
+        ∙ ap (λ (i : Refusal). refused (passed a sync) i (stands_at r a)) (let same : k ≡ n = cc in same)
 
 told_alike : (f g : Format) → SameFormat f g → told g ≡ told f
 told_alike f g same = rw (same.bitrate, same.samplerate, same.mode)

@@ -33,7 +33,6 @@ use Rattle.audio.specs.Calls.{aligned_of, after_of, framed_of, open_of, open_mem
 use Rattle.past.specs.Pasts.{Past, opened, decoded}
 use Rattle.past.specs.Calls.{Call, outcome, new_memory, before, known_leaves}
 use Rattle.past.specs.Ring.{memory_kept_long}
-use Rattle.refusal.specs.declared.Refusal.{Refusal}
 
 -- ---- the streams: 32 kbps, 44,100 Hz, mono, so frames of 104 bytes
 

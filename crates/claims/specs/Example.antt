@@ -25,7 +25,6 @@ use Rattle.past.specs.Ring.{memory_kept_long}
 use Rattle.claims.specs.Widths.{bits_are_the_widths}
 use Rattle.ringout.specs.RingOut.{Agreeing, agree_on}
 use Rattle.ringout.proofs.RingOut.{rings_out}
-use Rattle.refusal.specs.declared.Refusal.{Refusal}
 
 -- the state after the header
 abbrev pub headed : Audio

@@ -31,7 +31,7 @@ use Rattle.past.specs.Moves.{call_moves}
 use Rattle.heard.specs.Heard.{after, opening, Begun, opening_begun, begun_on}
 use Rattle.claims.specs.Passed.{nothing_sought}
 use Rattle.verdict.specs.Verdict.{Heading, Asked}
-use Rattle.refusal.specs.declared.Refusal.{Refusal}
+use Rattle.refusal.specs.Numbers.{number_of}
 
 -- ---- the last line is an end, and no other is
 
@@ -62,8 +62,11 @@ one_more x xs e r =
 -- a line that is no end is a call that gave neither 1 nor 7
 no_end : (number skipped : ℕ) (x : Answer) (a : Audio) → is_last (line_by number skipped x a) ≡ false → (answer_number x ≡ 1 → ⊥) × (answer_number x ≡ 7 → ⊥)
 no_end number skipped (Frame time bits) a e = (λ z. omega arith, λ z. omega arith)
-no_end number skipped (Refused n) a e = go (ends n) refl e
+no_end number skipped (Refused why) a e = go (ends n) refl e
   where
+    n : ℕ
+    n = number_of why
+
     go : (t : Bool) → ends n ≡ t → is_last (cond t (End n (byte_position a) skipped) (RefusedLine n (byte_position a) skipped)) ≡ false
         → (n ≡ 1 → ⊥) × (n ≡ 7 → ⊥)
     go true t f = absurd (never refl f)
@@ -126,7 +129,7 @@ comes_to_an_end (suc k) (suc calls) carried c l b few =
 opening_first : (skipped : ℕ) (h : Heading) (a : Audio) (xs : List Shown) → EndsOnce (lines_in xs) → EndsOnce (lines_in (opening_shown skipped h a ++ xs))
 opening_first skipped (Ok _) a xs e = e
 opening_first skipped (Err n) a xs e =
-    by_test (λ (ys : List Shown). EndsOnce (lines_in (ys ++ xs))) (opening_told n) _ _ (λ _. one_more (RefusedLine n (byte_position a) skipped) _ refl e)
+    by_test (λ (ys : List Shown). EndsOnce (lines_in (ys ++ xs))) (opening_told (number_of n)) _ _ (λ _. one_more (RefusedLine (number_of n) (byte_position a) skipped) _ refl e)
     (λ _. e)
 
 -- so the listing of every stream ends, and says so

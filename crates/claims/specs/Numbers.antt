@@ -3,7 +3,7 @@
 -- rows as constructors. Assumes nothing.
 use Rattle.std.specs.Prelude.{ℕ, ◌-◌, ◌*◌, ◌≤◌, ◌<◌, ◌≡◌, refl, true, false, List, ◌⊎◌, T, Float, length, Result, Ok, Err}
 use Rattle.std.proofs.Math.Path.{sym, ap, subst}
-use Rattle.std.proofs.Common.{◌∙◌, inl, inr}
+use Rattle.std.proofs.Common.{◌∙◌, inl, inr, arith}
 use borrow.Author.Tests.{lt-ltb, le-ltb, eq-eqb, ne_eqb}
 use Rattle.buffer.specs.Calls.{byte_after_of, left}
 use Rattle.buffer.specs.declared.BytePos.{BytePos}
@@ -25,7 +25,7 @@ use Rattle.audio.specs.declared.Answer.TheVariants.{Refused as AnswerRefused}
 use Rattle.ground.specs.Rows.{TableOf, exactly, never}
 use Rattle.synthesis.specs.Slots.{memory_length, output_length}
 use Rattle.buffer.specs.Bits.{longest_stream}
-use Rattle.header.specs.Attempts.{Attempts, attempt_table, attempt_number, first_gives, first_number}
+use Rattle.header.specs.Attempts.{Attempts, attempt_table, attempt_number, first_gives, first_number, attempt_gives}
 use Rattle.past.specs.Pasts.{Past}
 use Rattle.past.specs.Sound.{fresh_in_range, sound_state_in_range}
 use Rattle.refusal.specs.declared.Refusal.TheVariants.{LongStream, LittleRoom, CutOff, BadState}
@@ -282,13 +282,20 @@ opening_gives c s memory = opening_row (open_table c s memory).holds
 
 -- ---- 10 is never given by a decoder with a past, nor by an opening
 
-decode_ten : {s : List ℕ} {memory output : List Float} {a : Audio} {x : Decoded} → Decodes s memory output a 10 x → in_range a ≡ false
-decode_ten (ten l r) = r
-decode_ten (sought c e t) = absurd (attempt_number t)
+decode_ten : {s : List ℕ} {memory output : List Float} {a : Audio} {k : ℕ} {x : Decoded} → Decodes s memory output a k x → k ≡ 10 → in_range a ≡ false
+decode_ten (eight l) e = absurd (omega arith)
+decode_ten (nine l m) e = absurd (omega arith)
+decode_ten (ten l r) e = r
+decode_ten (sought c z t) e = absurd (subst (λ n. T (attempt_gives n)) e (attempt_number t))
+decode_ten (seven c h l) e = absurd (omega arith)
+decode_ten (zero c h l) e = absurd (omega arith)
 
-question_ten : {s : List ℕ} {a : Audio} {x : Replied} → Asks s a 10 x → in_range a ≡ false
-question_ten (ten l w) = w
-question_ten (sought l w e t) = absurd (attempt_number t)
+question_ten : {s : List ℕ} {a : Audio} {k : ℕ} {x : Replied} → Asks s a k x → k ≡ 10 → in_range a ≡ false
+question_ten (eight l) e = absurd (omega arith)
+question_ten (ten l w) e = w
+question_ten (known l w k) e = absurd (omega arith)
+question_ten (accepted l w k t) e = absurd (omega arith)
+question_ten (sought l w k t) e = absurd (subst (λ n. T (attempt_gives n)) e (attempt_number t))
 
 opening_ten : {c : Reading} {s : List ℕ} {m : List Float} {x : Asked} → Opens c s m 10 x → ⊥
 opening_ten (sought l k t) = attempt_number t
@@ -296,10 +303,10 @@ opening_ten (sought l k t) = attempt_number t
 module _ {a : Audio} {m : List Float} (past : Past a m) where
   pub ten_is_never_given : (s : List ℕ) (memory output : List Float) → answer_number (decode_of s memory output a).answer ≡ 10 → ⊥
   ten_is_never_given s memory output e =
-      never (sound_state_in_range past) (decode_ten ((exactly (decode_table s memory output a) 10 _).0 (refl, e)))
+      never (sound_state_in_range past) (decode_ten (decode_table s memory output a).holds e)
 
   pub question_never_gives_ten : (s : List ℕ) → reply_number (format_of s a).answer ≡ 10 → ⊥
-  question_never_gives_ten s e = never (sound_state_in_range past) (question_ten ((exactly (question_table s a) 10 _).0 (refl, e)))
+  question_never_gives_ten s e = never (sound_state_in_range past) (question_ten (question_table s a).holds e)
 
 pub opening_never_gives_ten : (c : Reading) (s : List ℕ) (m : List Float) → heading_number (open_of c s m).answer ≡ 10 → ⊥
 opening_never_gives_ten c s m e = opening_ten ((exactly (open_table c s m) 10 _).0 (refl, e))

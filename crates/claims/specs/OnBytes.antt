@@ -1,6 +1,6 @@
 -- Since opening a pending header ends on a byte, so a frame's first allocation bit is a byte's first, and the byte that the lister shows
 -- is that one. From 01, the lister: "byte after header and check word". Assumes nothing.
-use Rattle.std.specs.Prelude.{ℕ, ◌+◌, ◌-◌, ◌*◌, ◌/◌, ◌%◌, ◌≤◌, ◌<◌, ◌≡◌, Bool, cond, ◌&&◌, ◌||◌, List, ◌⊎◌, Float, Result, Ok, Err}
+use Rattle.std.specs.Prelude.{ℕ, ◌+◌, ◌-◌, ◌*◌, ◌/◌, ◌%◌, ◌≤◌, ◌<◌, ◌≡◌, Bool, cond, ◌&&◌, ◌||◌, List, ◌⊎◌, Float, Result, Ok, Err, Some, None, Option}
 use Rattle.std.proofs.Math.Path.{refl, ap}
 use Rattle.std.proofs.Common.{subst, inl, inr}
 use Rattle.std.proofs.Math.Bool.{true, false}
@@ -16,15 +16,11 @@ use Rattle.buffer.specs.Laws.{Enough, field_whole, field_read, field_moves}
 use Rattle.buffer.specs.declared.BytePos.{BytePos}
 use Rattle.buffer.specs.declared.Reader.{Reader}
 use Rattle.grammar.specs.Reads.{Reads, done, ask, ◌>>=◌, Taken, run}
-use Rattle.header.specs.Header.{by_search, seek_of, sync_of, start_of, by_start, header_of, accepted_header}
+use Rattle.header.specs.Header.{by_search, seek_of, sync_of, start_of, by_start, header_of, accepted_header, unless_refused}
 use Rattle.header.specs.Header.{ident_of, rates_of, mode_of, check_of, bound_of, bound_by, size_of, after_mode_of, rest_of, by_rates, by_ident, fields_of}
 use Rattle.header.specs.Moves.{few_bits_stay}
-use Rattle.header.specs.declared.Ident.{Ident}
-use Rattle.header.specs.declared.Ident.TheVariants.{LayerII, Refused as IdentRefused}
 use Rattle.header.specs.declared.Rates.{Rates}
 use Rattle.header.specs.declared.Format.{Format}
-use Rattle.header.specs.declared.Start.{Start}
-use Rattle.header.specs.declared.Start.TheVariants.{At, Refused as StartRefused}
 use Rattle.readings.specs.declared.Reading.{Reading}
 use Rattle.tables.specs.Standard.{kbps_of, rate_of}
 use Rattle.state.specs.State.{fresh}
@@ -44,9 +40,11 @@ use Rattle.claims.specs.Widths.{aligned_after_the_bits}
 use Rattle.claims.specs.Lister.{line_at}
 use Rattle.refusal.specs.declared.Refusal.{Refusal}
 use Rattle.header.specs.declared.Accepted.{Accepted}
+use Rattle.header.specs.declared.Unsynced.{Unsynced}
+use Rattle.refusal.specs.declared.Refusal.TheVariants.{OtherLayer, NoBitRate, NoSampleRate}
 
 -- where an accepted header ends
-abbrev OnByte : Header → Reader → Type 0
+abbrev OnByte : Result Accepted Refusal → Reader → Type 0
 OnByte (Ok x) r = r.at.0 % 8 ≡ 0
 OnByte (Err n) r = Unit
 
@@ -76,11 +74,11 @@ module _ (s : List ℕ) (short : length s ≤ longest_stream) where
 
   -- ---- the fields, from three bits into the second byte on
 
-  abbrev Ends : Taken Header → Type 0
+  abbrev Ends : Taken (Result Accepted Refusal) → Type 0
   Ends x = OnByte x.value x.next
 
   -- the check word, behind a byte's end: cut off, reading stays there
-  check_ends : (check : Bool) (bound : ℕ) (h : ℕ → Header) (r : Reader) → r.at.0 % 8 ≡ 0 → r.at.0 ≤ 8 * length s
+  check_ends : (check : Bool) (bound : ℕ) (h : ℕ → Result Accepted Refusal) (r : Reader) → r.at.0 % 8 ≡ 0 → r.at.0 ≤ 8 * length s
       → ((q : Reader) → q.at.0 % 8 ≡ 0 → OnByte (h bound) q) → Ends (run ((check_of check >>= λ _. done bound) >>= λ x. done (h x)) s r)
   unfolding run check_of ◌>>=◌
   check_ends true bound h r e l f =
@@ -88,7 +86,7 @@ module _ (s : List ℕ) (short : length s ≤ longest_stream) where
   check_ends false bound h r e l f = f r e
 
   -- extension and flags: the rest of the fourth byte, or nothing of it
-  bound_ends : (mode : ℕ) (check : Bool) (h : ℕ → Header) (r : Reader) → ((x : ℕ) (q : Reader) → q.at.0 % 8 ≡ 0 → OnByte (h x) q)
+  bound_ends : (mode : ℕ) (check : Bool) (h : ℕ → Result Accepted Refusal) (r : Reader) → ((x : ℕ) (q : Reader) → q.at.0 % 8 ≡ 0 → OnByte (h x) q)
       → ((r.at.0 % 8 ≡ 2) × (r.at.0 + 6 ≤ 8 * length s)) ⊎ (r.at.0 ≡ 8 * length s)
       → Ends (run (bound_of mode check >>= λ x. done (h x)) s r)
   unfolding bound_of ◌>>=◌
@@ -105,13 +103,15 @@ module _ (s : List ℕ) (short : length s ≤ longest_stream) where
 
   mode_ends : (known : Format) (check : Bool) (b f p mode : ℕ) (r : Reader)
       → ((r.at.0 % 8 ≡ 2) × (r.at.0 + 6 ≤ 8 * length s)) ⊎ (r.at.0 ≡ 8 * length s)
-      → Ends (run (cond (eqb (after_mode_of known b f mode) 0)
+      → Ends (run (unless_refused (after_mode_of known b f mode)
       (bound_of mode check >>= λ bound.
-      done (Ok (accepted_header (record { reading = known.reading; samplerate = f; bitrate = b; mode = mode; bound = bound }) (size_of b f p check))))
-      (done (Err (after_mode_of known b f mode)))) s r)
+      done (Ok (accepted_header (record { reading = known.reading; samplerate = f; bitrate = b; mode = mode; bound = bound }) (size_of b f p check))))) s r)
   unfolding run
-  mode_ends known check b f p mode r place =
-      by_test (λ (x : Reads Header). Ends (run x s r)) (eqb (after_mode_of known b f mode) 0) _ _ (λ _. bound_ends mode check _ r (λ _ _ z. z) place) (λ _. tt)
+  mode_ends known check b f p mode r place = go (after_mode_of known b f mode) _ (bound_ends mode check _ r (λ _ _ z. z) place)
+    where
+      go : (o : Option Refusal) (more : Reads (Result Accepted Refusal)) → Ends (run more s r) → Ends (run (unless_refused o more) s r)
+      go (Some n) more e = tt
+      go None more e = e
 
   -- private bit and mode: the last bit of the third byte, which is there, and the first two of the fourth
   rest_ends : (known : Format) (check : Bool) (b f p : ℕ) (r : Reader) → r.at.0 % 8 ≡ 7 → r.at.0 + 1 ≤ 8 * length s
@@ -124,7 +124,7 @@ module _ (s : List ℕ) (short : length s ≤ longest_stream) where
       (λ k. mode_ends known check b f p 0 (reader_at (r.at.0 + 1)) (inr (omega arith))))
       (λ m. absurd (omega arith))
 
-  refused_ends : (n : ℕ) (r : Reader) → Ends (run (done (Err n)) s r)
+  refused_ends : (n : Refusal) (r : Reader) → Ends (run (done (Err n)) s r)
   unfolding run
   refused_ends n r = tt
 
@@ -133,20 +133,20 @@ module _ (s : List ℕ) (short : length s ≤ longest_stream) where
   unfolding rates_of ◌>>=◌
   rates_end known check r e l =
       asks Ends 4 _ r (omega arith) l
-      (λ b m. by_test (λ (x : Reads Rates). Ends (run (x >>= by_rates known check) s (reader_at (r.at.0 + 4)))) (eqb b 0 || eqb b 15) _ _
-      (λ _. refused_ends 4 (reader_at (r.at.0 + 4)))
+      (λ b m. by_test (λ (x : Reads (Result Rates Refusal)). Ends (run (x >>= by_rates known check) s (reader_at (r.at.0 + 4)))) (eqb b 0 || eqb b 15) _ _
+      (λ _. refused_ends NoBitRate (reader_at (r.at.0 + 4)))
       (λ _. asks Ends 2 _ (reader_at (r.at.0 + 4)) (omega arith) (omega arith)
-      (λ f k. by_test (λ (x : Reads Rates). Ends (run (x >>= by_rates known check) s (reader_at (r.at.0 + 4 + 2)))) (eqb f 3) _ _
-      (λ _. refused_ends 5 (reader_at (r.at.0 + 4 + 2)))
+      (λ f k. by_test (λ (x : Reads (Result Rates Refusal)). Ends (run (x >>= by_rates known check) s (reader_at (r.at.0 + 4 + 2)))) (eqb f 3) _ _
+      (λ _. refused_ends NoSampleRate (reader_at (r.at.0 + 4 + 2)))
       (λ _. asks Ends 1 _ (reader_at (r.at.0 + 4 + 2)) (omega arith) (omega arith)
       (λ p j. rest_ends known check (b - 1) f p (reader_at (r.at.0 + 4 + 2 + 1)) (omega arith) (omega arith)) (λ j. absurd (omega arith))))
       (λ k. absurd (omega arith))))
-      (λ m. refused_ends 4 r)
+      (λ m. refused_ends NoBitRate r)
 
   -- version, layer and protection: the rest of the second byte, which is there
-  ident_ends : (known : Format) (i : Ident) (r : Reader) → r.at.0 % 8 ≡ 0 → r.at.0 ≤ 8 * length s → Ends (run (by_ident known i) s r)
-  ident_ends known (LayerII check) r e l = rates_end known check r e l
-  ident_ends known (IdentRefused n) r e l = refused_ends n r
+  ident_ends : (known : Format) (i : Result Bool Refusal) (r : Reader) → r.at.0 % 8 ≡ 0 → r.at.0 ≤ 8 * length s → Ends (run (by_ident known i) s r)
+  ident_ends known (Ok check) r e l = rates_end known check r e l
+  ident_ends known (Err n) r e l = refused_ends n r
 
   fields_end : (known : Format) (r : Reader) → r.at.0 % 8 ≡ 3 → r.at.0 + 5 ≤ 8 * length s → Ends (run (fields_of known) s r)
   unfolding fields_of ident_of ◌>>=◌
@@ -154,7 +154,7 @@ module _ (s : List ℕ) (short : length s ≤ longest_stream) where
       asks Ends 2 _ r (omega arith) (omega arith)
       (λ version m. asks Ends 2 _ (reader_at (r.at.0 + 2)) (omega arith) (omega arith)
       (λ layer k. asks Ends 1 _ (reader_at (r.at.0 + 2 + 2)) (omega arith) (omega arith)
-      (λ protection j. ident_ends known (cond (eqb version 3 && eqb layer 2) (LayerII (eqb protection 0)) (IdentRefused 3))
+      (λ protection j. ident_ends known (cond (eqb version 3 && eqb layer 2) (Ok (eqb protection 0)) (Err OtherLayer))
       (reader_at (r.at.0 + 2 + 2 + 1)) (omega arith) (omega arith))
       (λ j. absurd (omega arith)))
       (λ k. absurd (omega arith)))
@@ -162,9 +162,9 @@ module _ (s : List ℕ) (short : length s ≤ longest_stream) where
 
   -- ---- where the fields begin
 
-  abbrev Begins : Start → Type 0
-  Begins (At sync q) = (q.at.0 % 8 ≡ 3) × (q.at.0 + 5 ≤ 8 * length s)
-  Begins (StartRefused n sync q) = Unit
+  abbrev Begins : Result (Taken BytePos) Unsynced → Type 0
+  Begins (Ok x) = (x.next.at.0 % 8 ≡ 3) × (x.next.at.0 + 5 ≤ 8 * length s)
+  Begins (Err e) = Unit
 
   seek_begins : (r : Reader) → r.at.0 ≤ 8 * length s → Begins (seek_of s r)
   unfolding seek_of search_of
@@ -193,9 +193,9 @@ module _ (s : List ℕ) (short : length s ≤ longest_stream) where
       let w = first_within (other_at s 0) (length s - from) from in
       simp (le-ltb _ _ h.short, le-ltb _ _ h.near, le-ltb _ _ h.enough) (sync_begins (past_of s 0 from) (omega arith))
 
-  begun_ends : (known : Format) (x : Start) → Begins x → OnByte (by_start s known x).header (by_start s known x).next
-  begun_ends known (At sync q) h = fields_end known q h.0 h.1
-  begun_ends known (StartRefused n sync q) h = tt
+  begun_ends : (known : Format) (x : Result (Taken BytePos) Unsynced) → Begins x → OnByte (by_start s known x).header (by_start s known x).next
+  begun_ends known (Ok x) h = fields_end known x.next h.0 h.1
+  begun_ends known (Err e) h = tt
 
   -- an accepted header ends on a byte
   header_on_byte : (r : Reader) (known : Format) → r.at.0 ≤ farthest_bit → OnByte (header_of s r known).header (header_of s r known).next

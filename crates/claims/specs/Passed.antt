@@ -131,8 +131,8 @@ passed_up_to_the_standards_header s a short within {k} {b} e = by t.header refl 
     by : (h : Result Accepted Refusal) → t.header ≡ h → seeking (passed a t.sync) a t.next h ≡ asked k (Ok tt) b
         → StandardsHeader s a.reader b.format b.pending (to a k) b.reader
     by (Err n) is e = absurd (not_known (ap (λ (x : Asked). x.answer) e))
-    by (Ok x) is e =
+    by (Ok y) is e =
         subst (λ (x : Asked). StandardsHeader s a.reader x.state.format x.state.pending (to a x.skipped) x.state.reader) e
-        (subst (λ (n : ℕ). StandardsHeader s a.reader f size n t.next)
+        (subst (λ (n : ℕ). StandardsHeader s a.reader y.format y.size n t.next)
         (leads s a short within (attempt_table s a.reader short (ranged a within).near a.format).holds)
         (an_accepted_header s a.reader short a.format (ranged a within).near is))

@@ -30,14 +30,13 @@ use Rattle.past.specs.Calls.{Call, outcome, new_memory, new_output, sample, fram
 use Rattle.past.specs.Sound.{reading_of, time_by_frames}
 use Rattle.past.specs.Finite.{BitForBit}
 use Rattle.claims.specs.Numbers.{Decodes, Opens, Asks}
-use Rattle.claims.specs.Settled.{Rests}
+use Rattle.claims.specs.Settled.{RestsAt}
 use Rattle.claims.specs.Standard.{reading_over, ReadAs, unlisted_reads_the_same, ReadByItsFormat, accepted_as_the_standard, On, StandardsFrame, accepted_frames_are_the_standards, strict_frames_have_the_standards_pairs}
 use Rattle.claims.specs.Widths.{bits_are_the_movement, bits_are_the_widths}
 use Rattle.ringout.specs.RingOut.{Agreeing, Together}
 use Rattle.claims.specs.Sharp.{TellsApart}
 use Rattle.verdict.specs.Verdict.{Asked}
 use Rattle.refusal.specs.declared.Refusal.{Refusal}
-use Rattle.header.specs.declared.Accepted.{Accepted}
 use Rattle.refusal.specs.declared.Refusal.TheVariants.{BarredRate}
 
 pub record Demand1 : Type 0 where
@@ -49,7 +48,7 @@ pub record Demand1 : Type 0 where
   -- "Nothing relies on the caller having looked first."
   pub no_call_leads_out_of_range : {a : Audio} {m : List Float} → Past a m → in_range a ≡ true
   pub an_end_is_one_for_ever : (s : List ℕ) (m o : List Float) (a : Audio) → let x = decode_of s m o a in
-      ends (answer_number x.answer) ≡ true → Rests s (answer_number x.answer) x.state
+      ends (answer_number x.answer) ≡ true → RestsAt s (answer_number x.answer) x.state
   -- "A refused call leaves the samples untouched, and the synthesis memory too,"
   pub refused_leaves_all : (c : Call) (n : Refusal) → (outcome c).answer ≡ Refused n → (new_memory c ≡ c.memory) × (new_output c ≡ c.output)
   -- "but that an opening which only found no good header still clears the memory."

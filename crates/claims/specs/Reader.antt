@@ -1,7 +1,7 @@
 -- The reader's eight calls by 01's table: 8, 10, 11, 12 in this order, each given exactly when. Every call begins with 8 and 10; `read`
 -- alone goes on to 11 and 12, and a search that finds nothing is answered. Assumes nothing.
 use Prim.Native.Nat.{ℕ, zero as none, suc, ◌+◌, ◌-◌, ◌*◌, ◌/◌, ◌≤◌, ◌<◌}
-use Rattle.std.specs.Prelude.{◌≡◌, Bool, true, false, cond, List, eqb, ltb, length}
+use Rattle.std.specs.Prelude.{◌≡◌, Bool, true, false, cond, List, eqb, ltb, length, Result, Ok, Err}
 use Rattle.std.proofs.Math.Path.{refl, ap, sym}
 use Rattle.std.proofs.Common.{subst, ◌∙◌}
 use native.Mathlib.Omega.{arith}
@@ -9,67 +9,61 @@ use borrow.Author.Tests.{lt-ltb, le-ltb, ltb-true, ltb-false}
 use Rattle.ground.specs.First.{first_none, first_within, first_passes}
 use Rattle.ground.specs.Tests.{by_test}
 use Rattle.buffer.specs.Bits.{bits_value, past_of, pair_at, stop_of, longest_stream, farthest_bit}
-use Rattle.buffer.specs.Calls.{gate, left, byte_pos_of, aligned, reader_at, byte_at, read_of, has_of, ended_of, align_of, skip_of, tell_of, skip_bytes_of, search_of}
-use Rattle.buffer.specs.Numbers.{read_number, holds_number, moved_number, skipped_number, told_number, sync_number}
+use Rattle.buffer.specs.Calls.{taken, gate, left, byte_pos_of, aligned, reader_at, byte_at, read_of, has_of, ended_of, align_of, skip_of, tell_of, skip_bytes_of, search_of}
+use Rattle.buffer.specs.Numbers.{result_number}
 use Rattle.buffer.specs.PairLaws.{pair_found}
 use Rattle.buffer.specs.declared.BytePos.{BytePos}
 use Rattle.buffer.specs.declared.Reader.{Reader}
-use Rattle.buffer.specs.declared.Read.{Read}
-use Rattle.buffer.specs.declared.Read.TheVariants.{Value, Short, Refused}
-use Rattle.buffer.specs.declared.Holds.TheVariants.{Yes, No, Refused as HoldsRefused}
-use Rattle.buffer.specs.declared.Moved.TheVariants.{To, Refused as MovedRefused}
-use Rattle.buffer.specs.declared.Skipped.TheVariants.{Bytes, Refused as SkippedRefused}
-use Rattle.buffer.specs.declared.Told.TheVariants.{At, Refused as ToldRefused}
+use Rattle.buffer.specs.declared.Taken.{Taken}
 use Rattle.buffer.specs.declared.Sync.{Sync}
-use Rattle.buffer.specs.declared.Sync.TheVariants.{Found, Missing, Refused as SyncRefused}
+use Rattle.buffer.specs.declared.Sync.TheVariants.{Found, Missing}
 use Rattle.ground.specs.Rows.{TableOf}
+use Rattle.refusal.specs.declared.Refusal.TheVariants.{LongStream, BadState, WideRead, ShortRead}
+use Rattle.refusal.specs.declared.Refusal.{Refusal}
 
 -- ---- 8 and 10, for every call
 
-pub data Gated {A : Type 0} (s : List ℕ) (r : Reader) (refuse : ℕ → A) (number : ℕ) (go : A) : ℕ → A → Type 0 where
+pub data Gated {A : Type 0} (s : List ℕ) (r : Reader) (number : ℕ) (go : Result A Refusal) : ℕ → Result A Refusal → Type 0 where
   -- "stream above 16,777,216 bytes"
-  eight : longest_stream < length s → Gated s r refuse number go 8 (refuse 8)
+  eight : longest_stream < length s → Gated s r number go 8 (Err LongStream)
   -- "state out of range": "bit position at most 134,217,736"
-  ten : length s ≤ longest_stream → farthest_bit < r.at.0 → Gated s r refuse number go 10 (refuse 10)
+  ten : length s ≤ longest_stream → farthest_bit < r.at.0 → Gated s r number go 10 (Err BadState)
   -- neither
-  answered : length s ≤ longest_stream → r.at.0 ≤ farthest_bit → Gated s r refuse number go number go
+  answered : length s ≤ longest_stream → r.at.0 ≤ farthest_bit → Gated s r number go number go
 
-module _ {A : Type 0} (s : List ℕ) (r : Reader) (refuse : ℕ → A) (go : A) (number : A → ℕ) (given : (n : ℕ) → number (refuse n) ≡ n)
-    (k : ℕ) (otherwise : number go ≡ k) where
-  pub gate_table : TableOf number (gate s r refuse go) (Gated s r refuse k go)
+module _ {A : Type 0} (s : List ℕ) (r : Reader) (go : Result A Refusal) (k : ℕ) (otherwise : result_number go ≡ k) where
+  pub gate_table : TableOf result_number (gate s r go) (Gated s r k go)
   gate_table =
       record {
         holds =
-            by_test (λ x. Row (number x) x) (ltb longest_stream (length s)) _ _ (λ e. refused 8 (eight (ltb-true _ _ e)))
-            (λ e. by_test (λ x. Row (number x) x) (ltb farthest_bit r.at.0) _ _ (λ f. refused 10 (ten (ltb-false _ _ e) (ltb-true _ _ f)))
+            by_test (λ x. Row (result_number x) x) (ltb longest_stream (length s)) _ _ (λ e. eight (ltb-true _ _ e))
+            (λ e. by_test (λ x. Row (result_number x) x) (ltb farthest_bit r.at.0) _ _ (λ f. ten (ltb-false _ _ e) (ltb-true _ _ f))
             (λ f. subst (λ (i : ℕ). Row i go) (sym otherwise) (answered (ltb-false _ _ e) (ltb-false _ _ f))));
         only = one;
       }
     where
-      Row : ℕ → A → Type 0
-      Row = Gated s r refuse k go
+      Row : ℕ → Result A Refusal → Type 0
+      Row = Gated s r k go
 
-      refused : (n : ℕ) → Row n (refuse n) → Row (number (refuse n)) (refuse n)
-      refused n row = subst (λ (k : ℕ). Row k (refuse n)) (sym (given n)) row
-
-      one : {n : ℕ} {x : A} → Row n x → (x ≡ gate s r refuse go) × (number x ≡ n)
-      one (eight l) = (simp (lt-ltb _ _ l), given 8)
-      one (ten l f) = (simp (le-ltb _ _ l, lt-ltb _ _ f), given 10)
+      one : {n : ℕ} {x : Result A Refusal} → Row n x → (x ≡ gate s r go) × (result_number x ≡ n)
+      one (eight l) = (simp (lt-ltb _ _ l), refl)
+      one (ten l f) = (simp (le-ltb _ _ l, lt-ltb _ _ f), refl)
       one (answered l f) = (simp (le-ltb _ _ l, le-ltb _ _ f), otherwise)
 
 -- ---- read goes on to 11 and 12
 
-pub data ReadGives (s : List ℕ) (r : Reader) (n : ℕ) : ℕ → Read → Type 0 where
+pub data ReadGives (s : List ℕ) (r : Reader) (n : ℕ) : ℕ → Result (Taken ℕ) Refusal → Type 0 where
   -- "bit read of more than 32 bits"
-  eleven : 32 < n → ReadGives s r n 11 (Refused 11)
+  eleven : 32 < n → ReadGives s r n 11 (Err WideRead)
   -- "bit read wider than what remains"
-  twelve : n ≤ 32 → left s r < n → ReadGives s r n 12 Short
-  zero : n ≤ 32 → n ≤ left s r → ReadGives s r n 0 (Value (bits_value s r.at.0 n) (reader_at (r.at.0 + n)))
+  twelve : n ≤ 32 → left s r < n → ReadGives s r n 12 (Err ShortRead)
+  zero : n ≤ 32 → n ≤ left s r → ReadGives s r n 0 (Ok (taken (bits_value s r.at.0 n) (reader_at (r.at.0 + n))))
 
-abbrev pub reading : List ℕ → Reader → ℕ → Read
-reading s r n = cond (ltb 32 n) (Refused 11) (cond (ltb (left s r) n) Short (Value (bits_value s r.at.0 n) (reader_at (r.at.0 + n))))
+abbrev pub reading : List ℕ → Reader → ℕ → Result (Taken ℕ) Refusal
+reading s r n =
+    cond (ltb 32 n) (Err WideRead) (cond (ltb (left s r) n) (Err ShortRead) (Ok (taken (bits_value s r.at.0 n) (reader_at (r.at.0 + n)))))
 
-pub reading_table : (s : List ℕ) (r : Reader) (n : ℕ) → TableOf read_number (reading s r n) (ReadGives s r n)
+pub reading_table : (s : List ℕ) (r : Reader) (n : ℕ) → TableOf result_number (reading s r n) (ReadGives s r n)
 reading_table s r n =
     record {
       holds =
@@ -78,62 +72,64 @@ reading_table s r n =
       only = one;
     }
   where
-    P : Read → Type 0
-    P x = ReadGives s r n (read_number x) x
+    P : Result (Taken ℕ) Refusal → Type 0
+    P x = ReadGives s r n (result_number x) x
 
-    one : {k : ℕ} {x : Read} → ReadGives s r n k x → (x ≡ reading s r n) × (read_number x ≡ k)
+    one : {k : ℕ} {x : Result (Taken ℕ) Refusal} → ReadGives s r n k x → (x ≡ reading s r n) × (result_number x ≡ k)
     one (eleven l) = (simp (lt-ltb _ _ l), refl)
     one (twelve l f) = (simp (le-ltb _ _ l, lt-ltb _ _ f), refl)
     one (zero l f) = (simp (le-ltb _ _ l, le-ltb _ _ f), refl)
 
 -- ---- the eight calls
 
+-- either way an answer: 0
+either_is_0 : {A : Type 0} (t : Bool) (x y : A) → result_number (cond t (Ok x) (Ok y)) ≡ 0
+either_is_0 t x y = by_test (λ z. result_number z ≡ 0) t _ _ (λ _. refl) (λ _. refl)
+
 module _ (s : List ℕ) (r : Reader) where
-  pub read_table : (n : ℕ) → TableOf read_number (read_of s r n) (Gated s r Refused (read_number (reading s r n)) (reading s r n))
+  pub read_table : (n : ℕ) → TableOf result_number (read_of s r n) (Gated s r (result_number (reading s r n)) (reading s r n))
   unfolding read_of
-  read_table n = gate_table s r Refused (reading s r n) read_number (λ _. refl) _ refl
+  read_table n = gate_table s r (reading s r n) _ refl
 
   -- the others answer: 0
-  pub has_table : (n : ℕ) → TableOf holds_number (has_of s r n) (Gated s r HoldsRefused 0 (cond (ltb (left s r) n) No Yes))
+  pub has_table : (n : ℕ) → TableOf result_number (has_of s r n) (Gated s r 0 (cond (ltb (left s r) n) (Ok false) (Ok true)))
   unfolding has_of
-  has_table n = gate_table s r HoldsRefused _ holds_number (λ _. refl) 0 (by_test (λ x. holds_number x ≡ 0) (ltb (left s r) n) _ _ (λ _. refl) (λ _. refl))
+  has_table n = gate_table s r _ 0 (either_is_0 (ltb (left s r) n) false true)
 
-  pub has_ended_table : TableOf holds_number (ended_of s r) (Gated s r HoldsRefused 0 (cond (eqb (left s r) 0) Yes No))
+  pub has_ended_table : TableOf result_number (ended_of s r) (Gated s r 0 (cond (eqb (left s r) 0) (Ok true) (Ok false)))
   unfolding ended_of
-  has_ended_table = gate_table s r HoldsRefused _ holds_number (λ _. refl) 0 (by_test (λ x. holds_number x ≡ 0) (eqb (left s r) 0) _ _ (λ _. refl) (λ _. refl))
+  has_ended_table = gate_table s r _ 0 (either_is_0 (eqb (left s r) 0) true false)
 
-  pub align_table : TableOf moved_number (align_of s r) (Gated s r MovedRefused 0 (To (aligned r)))
+  pub align_table : TableOf result_number (align_of s r) (Gated s r 0 (Ok (aligned r)))
   unfolding align_of
-  align_table = gate_table s r MovedRefused _ moved_number (λ _. refl) 0 refl
+  align_table = gate_table s r _ 0 refl
 
-  pub skip_table : (n : ℕ) → TableOf moved_number (skip_of s r n) (Gated s r MovedRefused 0 (cond (ltb (left s r) n) (To r) (To (reader_at (r.at.0 + n)))))
+  pub skip_table : (n : ℕ) → TableOf result_number (skip_of s r n) (Gated s r 0 (cond (ltb (left s r) n) (Ok r) (Ok (reader_at (r.at.0 + n)))))
   unfolding skip_of
-  skip_table n = gate_table s r MovedRefused _ moved_number (λ _. refl) 0 (by_test (λ x. moved_number x ≡ 0) (ltb (left s r) n) _ _ (λ _. refl) (λ _. refl))
+  skip_table n = gate_table s r _ 0 (either_is_0 (ltb (left s r) n) r (reader_at (r.at.0 + n)))
 
-  pub tell_table : TableOf told_number (tell_of s r) (Gated s r ToldRefused 0 (At (byte_pos_of r.at)))
+  pub tell_table : TableOf result_number (tell_of s r) (Gated s r 0 (Ok (byte_pos_of r.at)))
   unfolding tell_of
-  tell_table = gate_table s r ToldRefused _ told_number (λ _. refl) 0 refl
+  tell_table = gate_table s r _ 0 refl
 
   pub skip_bytes_table : (v : ℕ) → let from = (r.at.0 + 7) / 8 in
-      TableOf skipped_number (skip_bytes_of s r v) (Gated s r SkippedRefused 0 (Bytes (past_of s v from - from) (reader_at (past_of s v from * 8))))
+      TableOf result_number (skip_bytes_of s r v) (Gated s r 0 (Ok (taken (past_of s v from - from) (reader_at (past_of s v from * 8)))))
   unfolding skip_bytes_of
-  skip_bytes_table v = gate_table s r SkippedRefused _ skipped_number (λ _. refl) 0 refl
+  skip_bytes_table v = gate_table s r _ 0 refl
 
   pub search_table : let stop = stop_of s (r.at.0 / 8) in
-      TableOf sync_number (search_of s r)
-      (Gated s r SyncRefused 0
-      (cond (ltb stop (length s - 1)) (Found (byte_at stop) (stop - r.at.0 / 8) (reader_at ((stop + 1) * 8 + 3)))
-      (Missing (byte_at (length s)) (length s - r.at.0 / 8) (reader_at ((stop + 1) * 8)))))
+      TableOf result_number (search_of s r)
+      (Gated s r 0
+      (cond (ltb stop (length s - 1)) (Ok (Found (byte_at stop) (stop - r.at.0 / 8) (reader_at ((stop + 1) * 8 + 3))))
+      (Ok (Missing (byte_at (length s)) (length s - r.at.0 / 8) (reader_at ((stop + 1) * 8))))))
   unfolding search_of
-  search_table =
-      gate_table s r SyncRefused _ sync_number (λ _. refl) 0
-      (by_test (λ x. sync_number x ≡ 0) (ltb (stop_of s (r.at.0 / 8)) (length s - 1)) _ _ (λ _. refl) (λ _. refl))
+  search_table = gate_table s r _ 0 (either_is_0 (ltb (stop_of s (r.at.0 / 8)) (length s - 1)) _ _)
 
 -- ---- what a search passes over (02, E2), in the stream's own bytes
 
 -- from the byte that holds the position so many bytes lead to a pair, past none
 pub a_pair_found : (s : List ℕ) (r : Reader) → length s ≤ longest_stream → r.at.0 ≤ farthest_bit → {sync : BytePos} {k : ℕ} {next : Reader}
-    → search_of s r ≡ Found sync k next
+    → search_of s r ≡ Ok (Found sync k next)
     → (r.at.0 / 8 + k ≡ sync.0) × (pair_at s sync.0 ≡ true) × ((j : ℕ) → r.at.0 / 8 ≤ j → j < sync.0 → pair_at s j ≡ false)
 unfolding search_of
 a_pair_found s r short near {sync} {k} {next} e = by (ltb stop (length s - 1)) refl (rw (le-ltb _ _ short, le-ltb _ _ near) at e)
@@ -145,8 +141,8 @@ a_pair_found s r short near {sync} {k} {next} e = by (ltb stop (length s - 1)) r
     stop = stop_of s from
 
     by : (t : Bool) → ltb stop (length s - 1) ≡ t
-        → cond t (Found (byte_at stop) (stop - from) (reader_at ((stop + 1) * 8 + 3))) (Missing (byte_at (length s)) (length s - from) (reader_at ((stop + 1) * 8)))
-        ≡ Found sync k next
+        → ◌≡◌ {A = Result Sync Refusal} (cond t (Ok (Found (byte_at stop) (stop - from) (reader_at ((stop + 1) * 8 + 3)))) (Ok (Missing (byte_at (length s)) (length s - from) (reader_at ((stop + 1) * 8)))))
+        (Ok (Found sync k next))
         → (from + k ≡ sync.0) × (pair_at s sync.0 ≡ true) × ((j : ℕ) → from ≤ j → j < sync.0 → pair_at s j ≡ false)
     by false t e = absurd (let z : ◌≡◌ {A = ℕ} 0 1 = cc in omega arith)
     by true t e =
@@ -163,10 +159,10 @@ a_pair_found s r short near {sync} {k} {next} e = by (ltb stop (length s - 1)) r
 -- ---- "a reader searched again at the end goes one byte further each time, at last to a 10"
 
 -- where a search leaves a reader
-abbrev pub searched : Reader → Sync → Reader
-searched r (Found sync skipped next) = next
-searched r (Missing sync skipped next) = next
-searched r (SyncRefused n) = r
+abbrev pub searched : Reader → Result Sync Refusal → Reader
+searched r (Ok (Found sync skipped next)) = next
+searched r (Ok (Missing sync skipped next)) = next
+searched r (Err n) = r
 
 unfoldable pub searched_again : List ℕ → Reader → ℕ → Reader
 searched_again s r none = r
@@ -174,7 +170,7 @@ searched_again s r (suc k) = let q = searched_again s r k in searched q (search_
 
 module _ (s : List ℕ) (short : length s ≤ longest_stream) where
   -- from the last byte on, at byte i
-  one_byte_further : (i : ℕ) → length s ≤ i + 1 → i * 8 ≤ farthest_bit → search_of s (reader_at (i * 8)) ≡ Missing (byte_at (length s)) (length s - i) (reader_at ((i + 1) * 8))
+  one_byte_further : (i : ℕ) → length s ≤ i + 1 → i * 8 ≤ farthest_bit → search_of s (reader_at (i * 8)) ≡ Ok (Missing (byte_at (length s)) (length s - i) (reader_at ((i + 1) * 8)))
   unfolding search_of
   one_byte_further i late near =
       let from : i * 8 / 8 ≡ i = omega arith in
@@ -191,7 +187,7 @@ module _ (s : List ℕ) (short : length s ≤ longest_stream) where
 
   -- so from byte i, at the last byte or past it, so many searches later
   pub at_last_to_a_ten : (i : ℕ) → length s ≤ i + 1 → i ≤ farthest_bit / 8
-      → search_of s (searched_again s (reader_at (i * 8)) (farthest_bit / 8 + 1 - i)) ≡ SyncRefused 10
+      → search_of s (searched_again s (reader_at (i * 8)) (farthest_bit / 8 + 1 - i)) ≡ Err BadState
   unfolding search_of
   at_last_to_a_ten i late near =
       let far : (i + (farthest_bit / 8 + 1 - i)) * 8 ≡ farthest_bit + 8 = omega arith in

@@ -1,13 +1,12 @@
 -- 01's table of proved examples: the thirteen rows as one list, with one claim. What is given stands in `rows`, what is got in `got`.
 -- Assumes nothing.
-use Rattle.std.specs.Prelude.{ℕ, ◌≡◌, List, [], ◌∷◌, ◌++◌, map, ℤ, pos, negsuc}
+use Rattle.std.specs.Prelude.{ℕ, ◌≡◌, List, [], ◌∷◌, ◌++◌, map, ℤ, pos, negsuc, Result, Ok, Err, cond, eqb}
 use Rattle.std.proofs.Common.{ap₂}
 use Rattle.ground.specs.First.{first_from}
 use Rattle.buffer.specs.Bits.{bit_at, bits_value}
 use Rattle.buffer.specs.Calls.{reader_at, read_of, field_of, has_of, skip_bytes_of}
 use Rattle.buffer.specs.Rows.{reads, row_1}
-use Rattle.buffer.specs.declared.Read.{Read}
-use Rattle.buffer.specs.declared.Read.TheVariants.{Value, Short, Refused}
+use Rattle.buffer.specs.declared.Taken.{Taken}
 use Rattle.grammar.specs.Reads.{◌>>=◌, run}
 use Rattle.tables.specs.Standard.{limit_of, chosen, serves, sblimit, rows_of}
 use Rattle.header.specs.Header.{bound_by, header_of, start_of, sync_of, fields_of, ident_of, rates_of, rest_of, mode_of, bound_of, check_of, size_of}
@@ -16,6 +15,8 @@ use Rattle.side.specs.Side.{cut_of}
 use Rattle.samples.specs.Sample.{scale_of, adj_of, scaled_by, sample_of, factor_of, digits_of}
 use Rattle.samples.specs.Rows.{row_13}
 use Rattle.samples.specs.declared.Three.{Three}
+use Rattle.refusal.specs.declared.Refusal.{Refusal}
+use Rattle.refusal.specs.Numbers.{number_of}
 
 -- what an example gives: whole numbers, and reads that are short
 pub data Cell : Type 0 where
@@ -26,13 +27,12 @@ pub data Cell : Type 0 where
 abbrev counts : List ℕ → List Cell
 counts = map (λ n. number (pos n))
 
-abbrev answers : List Read → List Cell
+abbrev answers : List (Result (Taken ℕ) Refusal) → List Cell
 answers = map cell
   where
-    cell : Read → Cell
-    cell (Value v next) = number (pos v)
-    cell Short = short
-    cell (Refused n) = refused n
+    cell : Result (Taken ℕ) Refusal → Cell
+    cell (Ok x) = number (pos x.value)
+    cell (Err n) = cond (eqb (number_of n) 12) short (refused (number_of n))
 
 abbrev digits : Three → List ℕ
 digits d = d.first ∷ d.second ∷ d.third ∷ []

@@ -40,11 +40,11 @@ use Rattle.claims.specs.Widths.{aligned_after_the_bits}
 use Rattle.claims.specs.Example.{headed, opened_to_header, before_zeros, zeros_accepted, begins_at_32, zeros_use_188_bits}
 use Rattle.claims.specs.Lister.{line_at, lines_from, one_line, last_line, text_of, listing_is_its_lines, worded_of, worded_is_its_lines}
 use Rattle.refusal.specs.declared.Refusal.{Refusal}
-use Rattle.refusal.specs.declared.Refusal.TheVariants.{NoSync}
+use Rattle.refusal.specs.declared.Refusal.TheVariants.{NoSync, NoHeader}
 
 -- ---- a call that is refused as it seeks a header
 
-module _ (c : Call) (n : ℕ) (sync : BytePos) (r : Reader) (b : Begun c) (none : c.state.pending ≡ 0)
+module _ (c : Call) (n : Refusal) (sync : BytePos) (r : Reader) (b : Begun c) (none : c.state.pending ≡ 0)
     (e : (known : Format) → header_of c.stream c.state.reader known ≡ refusal n sync r) where
   refused_so : outcome c ≡ refused (passed c.state sync) n (stands_at r c.state)
   unfolding decode_of attempt_of
@@ -115,24 +115,24 @@ first_begun = opening_begun plain zeros (lit≤ tt)
 abbrev second : Call
 second = after first
 
-second_refused : outcome second ≡ refused 598 2 (stands_at (reader_at 5016) framed_state)
+second_refused : outcome second ≡ refused 598 NoSync (stands_at (reader_at 5016) framed_state)
 unfolding framed_of after_of
 second_refused =
-    refused_so second 2 (byte_at 626) (reader_at 5016) (begun_on first first_begun) (ap (λ (x : Decoded). x.state.pending) framed)
+    refused_so second NoSync (byte_at 626) (reader_at 5016) (begun_on first first_begun) (ap (λ (x : Decoded). x.state.pending) framed)
     (λ known. ap (λ (r : Reader). header_of zeros r known) at_224 ∙ zeros_no_sync known)
-    ∙ ap (λ (r : Reader). refused (626 - (byte_after_of r.at).0) 2 (stands_at (reader_at 5016) framed_state)) at_224
+    ∙ ap (λ (r : Reader). refused (626 - (byte_after_of r.at).0) NoSync (stands_at (reader_at 5016) framed_state)) at_224
 
 abbrev third : Call
 third = after second
 
-third_refused : outcome third ≡ refused 0 1 (stands_at (reader_at 5016) third.state)
+third_refused : outcome third ≡ refused 0 NoHeader (stands_at (reader_at 5016) third.state)
 unfolding framed_of after_of
 third_refused =
     let there : third.state.reader ≡ reader_at 5016 = ap (λ (x : Decoded). x.state.reader) second_refused in
-    refused_so third 1 (byte_at 627) (reader_at 5016) (begun_on second (begun_on first first_begun))
+    refused_so third NoHeader (byte_at 627) (reader_at 5016) (begun_on second (begun_on first first_begun))
     (ap (λ (x : Decoded). x.state.pending) second_refused ∙ ap (λ (x : Decoded). x.state.pending) framed)
     (λ known. ap (λ (r : Reader). header_of zeros r known) there ∙ few_bits_stay zeros (reader_at 5016) known (lit≤ tt) (lit≤ tt) (lit< tt))
-    ∙ ap (λ (r : Reader). refused (627 - (byte_after_of r.at).0) 1 (stands_at (reader_at 5016) third.state)) there
+    ∙ ap (λ (r : Reader). refused (627 - (byte_after_of r.at).0) NoHeader (stands_at (reader_at 5016) third.state)) there
 
 second_line : line_at 0 second ≡ RefusedLine 2 (byte_at 627) 598
 unfolding next_of

@@ -23,7 +23,7 @@ use Rattle.refusal.specs.declared.Refusal.{Refusal}
 
 -- every number but a decoded frame's 0 leaves memory and output as they were
 module _ (s : List ℕ) (memory output : List Float) (a : Audio) where
-  by_verdict : (k : ℕ) (h : Heading) (b : Audio) (n : ℕ) → (answering s k h b).answer ≡ AnswerRefused n
+  by_verdict : (k : ℕ) (h : Heading) (b : Audio) (n : Refusal) → (answering s k h b).answer ≡ AnswerRefused n
       → (remembering s memory h b ≡ memory) × (sounding s memory output h b ≡ output)
   unfolding framed_of after_of
   by_verdict k (Ok _) b n e = absurd (let z : ◌≡◌ {A = ℕ} 0 1 = cc in omega arith)

@@ -34,7 +34,6 @@ use Rattle.clip.specs.Frames.{heard_of, clip_of}
 use Rattle.claims.specs.Numbers.{Lent}
 use Rattle.past.specs.Pasts.{Past, opened}
 use Rattle.refusal.specs.declared.Refusal.TheVariants.{NoHeader, NoSync, OtherLayer, NoBitRate, NoSampleRate, CutOff, LongStream, BadState}
-use Rattle.refusal.specs.declared.Refusal.{Refusal}
 
 -- decode's number goes by the verdict, and so by the lengths of memory and output only
 abbrev pub verdict : List ℕ → ℕ → ℕ → Audio → ℕ

@@ -25,7 +25,6 @@ use Rattle.listing.specs.Text.{digits_in, decimal_of, numbered, bracketed}
 use Rattle.listing.specs.Words.{letters, reason_of}
 use Rattle.listing.specs.declared.Line.TheVariants.{Refused as RefusedLine, End}
 use Rattle.refusal.specs.declared.Refusal.TheVariants.{CutOff, BarredRate}
-use Rattle.refusal.specs.declared.Refusal.{Refusal}
 
 abbrev strictly : Reading
 strictly = reading_by 1
