@@ -82,8 +82,7 @@ fn remaining(s: &[u8], at: usize) -> usize
     requires { length s.now ≤ longest_stream }
     ensures { result ≡ 8 * length s.now - at }
 {
-    let total = s.len() * 8;
-    if at < total { total - at } else { 0 }
+    (s.len() * 8).saturating_sub(at)
 }
 
 fn bit(byte: u8, place: usize) -> u32
@@ -150,7 +149,7 @@ fn is_sync(a: u8, b: u8) -> bool
 fn last_of(s: &[u8]) -> usize
     ensures { result ≡ length s.now - 1 }
 {
-    if s.len() == 0 { 0 } else { s.len() - 1 }
+    s.len().saturating_sub(1)
 }
 
 // The first place at or after `from` where a sync pair starts, or else the larger of `from` and the last byte's place.
@@ -176,8 +175,7 @@ fn first_pair(s: &[u8], from: BytePos) -> BytePos
 fn bytes_from(s: &[u8], from: BytePos) -> usize
     ensures { result ≡ length s.now - from.0 }
 {
-    let end = s.len();
-    if from.0 < end { end - from.0 } else { 0 }
+    s.len().saturating_sub(from.0)
 }
 
 // The first place at or after `from` whose byte differs from `v`, or else the larger of `from` and the stream's length.

@@ -6,8 +6,9 @@ ghost use Rattle.grammar.specs.Reads.{run, taken};
 ghost use Rattle.header.specs.Header.{ident_of, rates_of, mode_of, bound_by, check_of, bound_of, size_of, differs, after_mode_of, rest_of, fields_of, settled, unsought_of, seek_of, sync_of, start_of, header_of};
 
 use buffer::{BytePos, Reader, Sync, Taken};
-use readings::{MODE_MONO, Reading};
+use readings::Reading;
 use refusal::Refusal;
+use tables::MODE_MONO;
 
 const FRAME_SYNC: u32 = 0x7ff;
 
@@ -185,13 +186,11 @@ fn bound_by(mode: u32, extension: usize) -> usize
     requires { extension < 4 }
     ensures { result ≡ bound_by mode extension }
 {
-    if mode == MODE_JOINT_STEREO {
-        return 4 * (extension + 1);
+    match mode {
+        MODE_JOINT_STEREO => 4 * (extension + 1),
+        MODE_MONO => 0,
+        _ => 32,
     }
-    if mode == MODE_MONO {
-        return 0;
-    }
-    32
 }
 
 fn pass_check(s: &[u8], reader: Reader, check: bool) -> Reader

@@ -5,8 +5,6 @@ ghost use Rattle.std.specs.Prelude.{◌≡◌, ◌<◌};
 ghost use Rattle.readings.specs.Readings.{plain as plainReading, reading_by, strict as strictReading};
 ghost use Rattle.readings.specs.Pairs.{only_mono, never_mono, barred as barred_pair};
 
-pub const MODE_MONO: u32 = 3;
-
 // How a decoder reads: chosen at its opening, and kept. Each choice is a bit; specs/Readings says what it is for. `strict` has its
 // effect; each of the others waits for its request.
 #[derive(Clone, Copy)]
@@ -40,13 +38,13 @@ fn strict(reading: Reading) -> bool
 fn only_mono(kbps: u32) -> bool
     ensures { result ≡ only_mono kbps }
 {
-    (kbps == 32) | (kbps == 48) | (kbps == 56) | (kbps == 80)
+    matches!(kbps, 32 | 48 | 56 | 80)
 }
 
 fn never_mono(kbps: u32) -> bool
     ensures { result ≡ never_mono kbps }
 {
-    (kbps == 224) | (kbps == 256) | (kbps == 320) | (kbps == 384)
+    matches!(kbps, 224 | 256 | 320 | 384)
 }
 
 // Whether the standard does not have this bit rate in this mode, and the reading minds it.
@@ -55,7 +53,7 @@ pub fn barred(reading: Reading, bitrate: usize, mode: u32) -> bool
     ensures { result ≡ barred_pair reading bitrate mode }
 {
     let kbps = tables::kbps(bitrate);
-    if mode == MODE_MONO {
+    if mode == tables::MODE_MONO {
         return strict(reading) & never_mono(kbps);
     }
     strict(reading) & only_mono(kbps)

@@ -12,7 +12,7 @@ const BIT_RATE: [u32; 14] = [
 
 const SAMPLE_RATE: [u32; 4] = [44100, 48000, 32000, 0];
 
-const MODE_MONO: u32 = 3;
+pub const MODE_MONO: u32 = 3;
 
 // Bit rate classes: mono, then the other modes.
 const QUANT_LUT_STEP_1: [[usize; 16]; 2] = [
