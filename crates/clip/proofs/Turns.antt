@@ -19,7 +19,7 @@ use Rattle.audio.specs.declared.Answer.{Answer}
 use Rattle.audio.specs.declared.Answer.TheVariants.{Frame, Refused}
 use Rattle.clip.specs.Frames.{Turn, turn, turning, turn_of}
 use Rattle.refusal.specs.declared.Refusal.{Refusal}
-use Rattle.std.specs.Prelude.{Ok, Err}
+use Rattle.std.specs.Prelude.{Some, None, Ok, Err}
 
 -- a frame is given only at a known sample rate
 pub frame_rate : (s : List ℕ) (memory output : List Float) (a : Audio) (x : Decoded) (time : Float) (bits : ℕ) → x ≡ decode_of s memory output a
@@ -45,11 +45,11 @@ turns s memory output a (suc calls) l x m o e f g answer h = let z : suc calls -
 module _ (s : List ℕ) (memory output : List Float) (a : Audio) (calls : ℕ) (some : 0 < calls) (x : Decoded) (m o : List Float)
     (e : x ≡ decode_of s memory output a) (f : m ≡ decode_memory s memory output a) (g : o ≡ decode_output s memory output a) where
   pub frame_found : (time : Float) (bits rate : ℕ) → x.answer ≡ Frame time bits → rate ≡ rate_of x.state.format.samplerate
-      → turn true rate x.state (calls - 1) m o ≡ turn_of calls s memory output a
+      → turn (Some rate) x.state (calls - 1) m o ≡ turn_of calls s memory output a
   frame_found time bits rate h r = rw r (turns s memory output a calls some x m o e f g (Frame time bits) h)
 
   pub end_found : (n : Refusal) (last : Bool) → x.answer ≡ Refused n → last ≡ ends (number_of n) → last ≡ true
-      → turn false 0 x.state (calls - 1) m o ≡ turn_of calls s memory output a
+      → turn None x.state (calls - 1) m o ≡ turn_of calls s memory output a
   end_found n last h r t = rw (sym r ∙ t) at (turns s memory output a calls some x m o e f g (Refused n) h)
 
   pub goes_past : (n : Refusal) (last : Bool) → x.answer ≡ Refused n → last ≡ ends (number_of n) → last ≡ false
@@ -61,6 +61,6 @@ pub by_parts : {t u : Turn} → t ≡ u → (t.reached ≡ u.reached) × ((t.mem
 by_parts e = (ap (λ (t : Turn). t.reached) e, (ap (λ (t : Turn). t.memory) e, ap (λ (t : Turn). t.output) e))
 
 pub no_call_left : (s : List ℕ) (memory output : List Float) (a : Audio) (calls : ℕ) → calls ≡ 0
-    → turn false 0 a calls memory output ≡ turn_of calls s memory output a
+    → turn None a calls memory output ≡ turn_of calls s memory output a
 unfolding turn_of
 no_call_left s memory output a calls z = rw z

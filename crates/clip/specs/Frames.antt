@@ -1,6 +1,6 @@
 -- A clip as the frames that are heard of it. From 02, E1: "every decoded frame"; 01, the lister: "calls until 1 or 7".
 -- Assumes nothing.
-use Rattle.std.specs.Prelude.{ℕ, zero, suc, ◌+◌, ◌/◌, Bool, true, false, cond, List, [], ◌∷◌, Float, length}
+use Rattle.std.specs.Prelude.{ℕ, zero, suc, ◌+◌, ◌/◌, cond, Option, Some, None, List, [], ◌∷◌, Float, length}
 use Rattle.synthesis.specs.Slots.{memory_length, output_length, quiet}
 use Rattle.readings.specs.Readings.{plain}
 use Rattle.tables.specs.Standard.{rate_of}
@@ -59,18 +59,18 @@ pub record Turn : Type 0 where
   pub output : List Float
 
 -- its parts
-abbrev pub turn : Bool → ℕ → Audio → ℕ → List Float → List Float → Turn
-turn frame rate a calls memory output =
-    record { reached = record { frame = frame; rate = rate; playing = record { state = a; calls = calls } }; memory = memory; output = output }
+abbrev pub turn : Option ℕ → Audio → ℕ → List Float → List Float → Turn
+turn rate a calls memory output =
+    record { reached = record { rate = rate; playing = record { state = a; calls = calls } }; memory = memory; output = output }
 
 -- a frame ends a turn, and so does the stream's end
 abbrev pub turning : Answer → Audio → ℕ → List Float → List Float → Turn → Turn
-turning (Frame time bits) a calls memory output more = turn true (rate_of a.format.samplerate) a calls memory output
-turning (Refused n) a calls memory output more = cond (ends (number_of n)) (turn false 0 a calls memory output) more
+turning (Frame time bits) a calls memory output more = turn (Some (rate_of a.format.samplerate)) a calls memory output
+turning (Refused n) a calls memory output more = cond (ends (number_of n)) (turn None a calls memory output) more
 
 -- the calls up to the next frame, or to the end
 unfoldable pub turn_of : ℕ → List ℕ → List Float → List Float → Audio → Turn
-turn_of zero s memory output a = turn false 0 a 0 memory output
+turn_of zero s memory output a = turn None a 0 memory output
 turn_of (suc calls) s memory output a =
     let x = decode_of s memory output a in
     let m = decode_memory s memory output a in

@@ -1,6 +1,7 @@
 -- A clip turn by turn: the frame that a turn finds, and then what is heard from where it ended. So a count of turns is a count of frames.
 -- Assumes nothing.
-use Rattle.std.specs.Prelude.{ℕ, zero, suc, ◌+◌, ◌-◌, ◌/◌, ◌≤◌, ◌<◌, ◌≡◌, refl, Bool, true, false, cond, List, [], ◌∷◌, Float, ltb, length, drop, get_or}
+use Rattle.std.specs.Prelude.{ℕ, zero, suc, ◌+◌, ◌-◌, ◌/◌, ◌≤◌, ◌<◌, ◌≡◌, refl, Bool, true, false, cond, Option, Some, None, is_some, List, [], ◌∷◌, Float, ltb, length, drop, get_or}
+use Rattle.std.specs.Option.{unwrap_or}
 use Rattle.std.proofs.Common.{ap, sym, ◌∙◌, arith, length-drop, drop-cons, lt-ltb, le-ltb}
 use Rattle.ground.specs.Tests.{by_test}
 use Rattle.synthesis.specs.Slots.{memory_length, output_length, quiet}
@@ -10,13 +11,17 @@ use Rattle.refusal.specs.Numbers.{number_of}
 use Rattle.state.specs.declared.Audio.{Audio}
 use Rattle.audio.specs.declared.Answer.{Answer}
 use Rattle.audio.specs.declared.Answer.TheVariants.{Frame, Refused}
-use Rattle.clip.specs.Frames.{Heard, hearing, heard_of, opened_of, clip_of, Turn, turn, turning, turn_of}
+use Rattle.clip.specs.Frames.{Heard, hearing, rate_in, heard_of, opened_of, clip_of, Turn, turn, turning, turn_of}
 use Rattle.clip.specs.declared.Playing.{Playing}
 use Rattle.clip.specs.declared.Reached.{Reached}
 
 -- the frame of a turn that found one
+abbrev rate_or_0 : Option ℕ → ℕ
+rate_or_0 (Some rate) = rate
+rate_or_0 None = 0
+
 abbrev pub found_in : Turn → Heard
-found_in t = record { rate = t.reached.rate; samples = t.output }
+found_in t = record { rate = rate_or_0 t.reached.rate; samples = t.output }
 
 -- what is heard from where a turn ended
 abbrev pub behind : List ℕ → Turn → List Heard
@@ -24,7 +29,17 @@ behind s t = let p = t.reached.playing in heard_of p.calls s t.memory t.output p
 
 -- what is heard from where it began
 unfoldable pub heard_by : List ℕ → Turn → List Heard
-heard_by s t = cond t.reached.frame (found_in t ∷ behind s t) []
+heard_by s t = cond (is_some t.reached.rate) (found_in t ∷ behind s t) []
+
+-- its rate, or 44,100 where it found no frame, is that of the first frame that is heard
+pub told_rate : (s : List ℕ) (t : Turn) → unwrap_or t.reached.rate 44100 ≡ rate_in (heard_by s t)
+unfolding heard_by
+told_rate s t = go t.reached.rate t.output (behind s t)
+  where
+    go : (rate : Option ℕ) (samples : List Float) (more : List Heard)
+        → unwrap_or rate 44100 ≡ rate_in (cond (is_some rate) (record { rate = rate_or_0 rate; samples = samples } ∷ more) [])
+    go (Some rate) samples more = refl
+    go None samples more = refl
 
 by_answer : (x : Answer) (s : List ℕ) (a : Audio) (calls : ℕ) (m o : List Float) (t : Turn) → heard_of calls s m o a ≡ heard_by s t
     → hearing x a o (heard_of calls s m o a) ≡ heard_by s (turning x a calls m o t)
@@ -32,7 +47,7 @@ unfolding heard_by
 by_answer (Frame time bits) s a calls m o t e = refl
 by_answer (Refused n) s a calls m o t e = go (ends (number_of n))
   where
-    go : (last : Bool) → cond last [] (heard_of calls s m o a) ≡ heard_by s (cond last (turn false 0 a calls m o) t)
+    go : (last : Bool) → cond last [] (heard_of calls s m o a) ≡ heard_by s (cond last (turn None a calls m o) t)
     go true = refl
     go false = e
 
@@ -70,15 +85,15 @@ pub begins : (s : List ℕ) (p : Playing) (m : List Float) → p ≡ opened_of s
 unfolding clip_of
 begins s p m e f = rw (e, f)
 
-pub one_found : (s : List ℕ) (t : Turn) → t.reached.frame ≡ true → heard_by s t ≡ found_in t ∷ behind s t
+pub one_found : (s : List ℕ) (t : Turn) → is_some t.reached.rate ≡ true → heard_by s t ≡ found_in t ∷ behind s t
 unfolding heard_by
 one_found s t e = rw e
 
-pub none_found : (s : List ℕ) (t : Turn) → t.reached.frame ≡ false → heard_by s t ≡ []
+pub none_found : (s : List ℕ) (t : Turn) → is_some t.reached.rate ≡ false → heard_by s t ≡ []
 unfolding heard_by
 none_found s t e = rw e
 
-pub one_fewer : (s : List ℕ) (t u : Turn) → t.reached.frame ≡ true → behind s t ≡ heard_by s u → length (heard_by s t) ≡ suc (length (heard_by s u))
+pub one_fewer : (s : List ℕ) (t u : Turn) → is_some t.reached.rate ≡ true → behind s t ≡ heard_by s u → length (heard_by s t) ≡ suc (length (heard_by s u))
 one_fewer s t u e f = ap length (one_found s t e) ∙ ap (λ xs. suc (length xs)) f
 
 -- a turn at frame i of a clip finds it
@@ -86,7 +101,7 @@ pub found_at : (s : List ℕ) (xs : List Heard) (i : ℕ) (d : Heard) (t : Turn)
     → (get_or xs i d ≡ found_in t) × (drop (suc i) xs ≡ behind s t)
 unfolding heard_by
 found_at s xs i d t l e =
-    by_test P t.reached.frame _ _ (λ _ h. (ap (λ ys. get_or ys 0 d) h, ap (drop 1) h)) (λ _ h. absurd (let z = ap length h in omega arith))
+    by_test P (is_some t.reached.rate) _ _ (λ _ h. (ap (λ ys. get_or ys 0 d) h, ap (drop 1) h)) (λ _ h. absurd (let z = ap length h in omega arith))
     (sym (drop-cons xs i d l) ∙ e)
   where
     P : List Heard → Type 0
@@ -106,13 +121,13 @@ from_turn s (suc i) l =
     (found_at s (clip_of s) i (found_in (turn_at s i)) (turn_at s i) (omega arith) (from_turn s i (omega arith))).1 ∙ turn_by_turn _ s _ _ _
 
 -- the first pass counts the turns that find a frame, and the second plays as many: turn i finds one exactly when the clip has a frame i
-pub counted_is_played : (s : List ℕ) (i : ℕ) → i ≤ length (clip_of s) → (turn_at s i).reached.frame ≡ ltb i (length (clip_of s))
-counted_is_played s i l = go (turn_at s i).reached.frame refl
+pub counted_is_played : (s : List ℕ) (i : ℕ) → i ≤ length (clip_of s) → is_some (turn_at s i).reached.rate ≡ ltb i (length (clip_of s))
+counted_is_played s i l = go (is_some (turn_at s i).reached.rate) refl
   where
     left : length (heard_by s (turn_at s i)) ≡ length (clip_of s) - i
     left = ap length (sym (from_turn s i l)) ∙ length-drop i (clip_of s)
 
-    go : (found : Bool) → (turn_at s i).reached.frame ≡ found → found ≡ ltb i (length (clip_of s))
+    go : (found : Bool) → is_some (turn_at s i).reached.rate ≡ found → found ≡ ltb i (length (clip_of s))
     go true e = sym (lt-ltb i (length (clip_of s)) (omega (arith, left, ap length (one_found s (turn_at s i) e))))
     go false e = sym (le-ltb i (length (clip_of s)) (omega (arith, left, ap length (none_found s (turn_at s i) e))))
 

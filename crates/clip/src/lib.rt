@@ -15,11 +15,10 @@ pub struct Playing {
     pub calls: usize,
 }
 
-// Whether a frame was found, and its samples a second.
+// The samples a second of the frame that was found, if there was one, and where the calls stand behind it.
 #[derive(Clone, Copy)]
 pub struct Reached {
-    pub frame: bool,
-    pub rate: u32,
+    pub rate: Option<u32>,
     pub playing: Playing,
 }
 
@@ -55,8 +54,7 @@ pub fn next(playing: Playing, stream: &[u8], memory: &mut [f32], output: &mut [f
         match decoded.answer {
             Answer::Frame { .. } => {
                 return Reached {
-                    frame: true,
-                    rate: tables::rate(state.format.samplerate),
+                    rate: Some(tables::rate(state.format.samplerate)),
                     playing: Playing { state, calls },
                 };
             }
@@ -68,8 +66,7 @@ pub fn next(playing: Playing, stream: &[u8], memory: &mut [f32], output: &mut [f
         }
     }
     Reached {
-        frame: false,
-        rate: 0,
+        rate: None,
         playing: Playing { state, calls },
     }
 }
@@ -82,9 +79,9 @@ pub fn count(stream: &[u8]) -> Counted
     let mut output = [0.0f32; synthesis::OUTPUT];
     let opened = start(stream, &mut memory);
     let mut at = next(opened, stream, &mut memory, &mut output);
-    let rate = if at.frame { at.rate } else { 44100 };
+    let rate = at.rate.unwrap_or(44100);
     let mut frames = 0;
-    while at.frame {
+    while let Some(_) = at.rate {
         frames += 1;
         at = next(at.playing, stream, &mut memory, &mut output);
     }

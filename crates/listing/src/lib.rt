@@ -62,12 +62,8 @@ pub fn byte_of(a: Audio) -> BytePos
 fn byte_before(end: BytePos, bits: usize) -> BytePos
     ensures { result ≡ byte_before end bits }
 {
-    let used = BitIndex(bits);
-    let bytes = used.byte_after();
-    if bytes.0 < end.0 {
-        return BytePos(end.0 - bytes.0);
-    }
-    BytePos(0)
+    let bytes = BitIndex(bits).byte_after();
+    BytePos(end.0.saturating_sub(bytes.0))
 }
 
 fn rate(samplerate: usize) -> u32
@@ -143,10 +139,11 @@ pub fn next_line(
     ensures output_after { output.new ≡ decode_output stream.now memory.old output.old a }
 {
     let d = audio::decode(a, stream, memory, output);
-    let state = d.state;
-    let answer = d.answer;
-    let line = line_of(a.frames, answer, state, carried + d.skipped);
-    Listed { line, state }
+    let line = line_of(a.frames, d.answer, d.state, carried + d.skipped);
+    Listed {
+        line,
+        state: d.state,
+    }
 }
 
 fn line_of(number: u32, answer: Answer, state: Audio, skipped: usize) -> Line

@@ -1,5 +1,5 @@
 -- The listing as the pass goes through it: the opening's line, then call by call. Assumes nothing.
-use Prim.Native.Nat.{ℕ, zero, suc, ◌+◌, ◌-◌, ◌*◌, ◌/◌, ◌^◌, ◌≤◌, ◌<◌}
+use Prim.Native.Nat.{ℕ, suc, ◌+◌, ◌*◌, ◌/◌, ◌^◌, ◌≤◌, ◌<◌}
 use mathlib.Core.Path.{◌≡◌, refl, sym, ap, ◌∙◌}
 use mathlib.Core.Bool.{Bool, true, false, cond}
 use mathlib.Core.List.{List, [], ◌∷◌, ◌++◌, append_assoc, append-nil}
@@ -23,7 +23,6 @@ use Rattle.tally.specs.declared.Tally.{Tally}
 use Rattle.tally.proofs.Adds.{added, junk_few, few}
 use Rattle.verdict.specs.Verdict.{Heading, Asked}
 use Rattle.refusal.specs.Numbers.{number_of}
-use Rattle.refusal.specs.declared.Refusal.{Refusal}
 use Rattle.std.specs.Prelude.{Ok, Err}
 
 lines_append : (xs ys : List Shown) → lines_in (xs ++ ys) ≡ lines_in xs ++ lines_in ys
@@ -81,7 +80,7 @@ module _ (c : Reading) (s : List ℕ) (calls : ℕ) (memory output : List Float)
       let all : lines_of c s ≡ left.done = rw z at left.all ∙ append-nil left.done in
       left.is ∙ ap tally_of (sym all)
 
-  module _ (within : carried ≤ length s) (x : Listed) (m o : List Float) (some : 0 < calls) (e : x ≡ next_of s memory output carried a)
+  module _ (within : carried ≤ length s) (more : ℕ) (x : Listed) (m o : List Float) (z : calls ≡ suc more) (e : x ≡ next_of s memory output carried a)
       (f : m ≡ decode_memory s memory output a) (g : o ≡ decode_output s memory output a) where
     skips_few : skipped_in x.line ≤ 2 * length s
     skips_few = rw e (line_skips_few s memory output carried a within)
@@ -93,13 +92,12 @@ module _ (c : Reading) (s : List ℕ) (calls : ℕ) (memory output : List Float)
       omega (arith, ap (λ (t : Tally). t.junk) left.is, left.little, skips_few),
     )
 
-    abbrev more : List Shown
-    more = shown_from (calls - 1) s m o 0 x.state
+    abbrev rest : List Shown
+    rest = shown_from more s m o 0 x.state
 
-    turn : (n : ℕ) → n ≡ calls → lines_in (shown_from n s memory output carried a) ≡ x.line ∷ lines_in (cond (is_last x.line) [] more)
+    turn : lines_in (shown_from calls s memory output carried a) ≡ x.line ∷ lines_in (cond (is_last x.line) [] rest)
     unfolding shown_from
-    turn zero z = absurd (omega arith)
-    turn (suc n) z = let y : calls - 1 ≡ n = omega arith in rw (y, e, f, g)
+    turn = rw (z, e, f, g)
 
     module _ (next : Tally) (last : Bool) (n : next ≡ add_of tally x.line) (t : last ≡ is_last x.line) where
       abbrev line : List Line
@@ -108,13 +106,13 @@ module _ (c : Reading) (s : List ℕ) (calls : ℕ) (memory output : List Float)
       so_far : next ≡ tally_of (left.done ++ line)
       so_far = n ∙ ap (λ (before : Tally). add_of before x.line) left.is ∙ sym (added left.done x.line)
 
-      all_lines : lines_of c s ≡ (left.done ++ line) ++ lines_in (cond (is_last x.line) [] more)
-      all_lines = left.all ∙ ap (λ (rest : List Line). left.done ++ rest) (turn calls refl) ∙ sym (append_assoc left.done line _)
+      all_lines : lines_of c s ≡ (left.done ++ line) ++ lines_in (cond (is_last x.line) [] rest)
+      all_lines = left.all ∙ ap (λ (xs : List Line). left.done ++ xs) turn ∙ sym (append_assoc left.done line _)
 
       pub after_last : last ≡ true → next ≡ tally_of (lines_of c s)
       after_last h = so_far ∙ ap tally_of (sym (rw (sym t ∙ h) at all_lines ∙ append-nil _))
 
-      pub after_other : last ≡ false → Counted c s next (calls - 1) (lines_in more)
+      pub after_other : last ≡ false → Counted c s next more (lines_in rest)
       after_other h =
           record {
             done = left.done ++ line;

@@ -61,8 +61,7 @@ fn more_junk(tally: Tally, line: Line) -> usize
     requires { tally.junk + skipped_in line < 2 ^ 64 }
     ensures { result ≡ junk_more tally (skipped_in line) }
 {
-    let frames = tally.frames;
-    if frames.count == 0 {
+    if tally.frames.count == 0 {
         return tally.junk + listing::skipped(line);
     }
     tally.junk
@@ -75,33 +74,21 @@ fn add(tally: Tally, line: Line) -> Tally
     ensures { result ≡ add_of tally line }
 {
     let junk = more_junk(tally, line);
-    let frames = tally.frames;
-    let refused = tally.refused;
-    let end = tally.end;
     match line {
-        Line::Frame { rate, .. } => {
-            let more = keep(frames, rate as usize);
-            Tally {
-                frames: more,
-                refused,
-                end,
-                junk,
-            }
-        }
-        Line::Refused { number, at, .. } => {
-            let more = keep_at(refused, number as usize, at.0);
-            Tally {
-                frames,
-                refused: more,
-                end,
-                junk,
-            }
-        }
+        Line::Frame { rate, .. } => Tally {
+            frames: keep(tally.frames, rate as usize),
+            junk,
+            ..tally
+        },
+        Line::Refused { number, at, .. } => Tally {
+            refused: keep_at(tally.refused, number as usize, at.0),
+            junk,
+            ..tally
+        },
         Line::End { number, .. } => Tally {
-            frames,
-            refused,
             end: number,
             junk,
+            ..tally
         },
         Line::Long => tally,
     }
@@ -151,15 +138,12 @@ pub fn count(stream: &[u8], reading: Reading) -> Tally
     let mut tally = opening(opened);
     let mut state = opened.state;
     let mut carried = listing::carried(opened);
-    let mut calls = stream.len() / 2 + 2;
-    while 0 < calls {
-        calls -= 1;
+    for _ in 0..stream.len() / 2 + 2 {
         let listed = listing::next_line(state, stream, &mut memory, &mut output, carried);
         carried = 0;
         state = listed.state;
-        let line = listed.line;
-        tally = add(tally, line);
-        if listing::is_last(line) {
+        tally = add(tally, listed.line);
+        if listing::is_last(listed.line) {
             break;
         }
     }

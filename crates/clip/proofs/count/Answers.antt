@@ -5,11 +5,12 @@ use mathlib.Core.Path.{◌≡◌, ap, sym, ◌∙◌}
 use native.Mathlib.Omega.{arith}
 use lib.ListN.{length}
 use borrow.Author.Rules.{rules}
+use Rattle.std.specs.Prelude.{is_some}
+use Rattle.refusal.specs.Handed.{not_there}
 use Rattle.clip.specs.Frames.{clip_of, rate_in}
-use Rattle.clip.specs.Turns.{heard_next, few_in_clip, begins, one_found, none_found, one_fewer}
+use Rattle.clip.specs.Turns.{heard_next, few_in_clip, begins, told_rate, one_found, none_found, one_fewer}
 use Rattle.clip.proofs.count.Invariants.{heard_from}
 use Rattle.clip.proofs.count.Goals as goal
-use Rattle.clip.proofs.count.Goals.{then-at, else-at}
 
 pub loop-at-init : goal.loop-at-init
 unfolding of_bits
@@ -19,10 +20,7 @@ loop-at-init c =
     let is = begins _ _ _ o.value o.memory_after ∙ heard_next _ _ _ _ _ _ _ _ e.value e.memory_after e.output_after in (
       search rules,
       search rules,
-      elim c.if-at.branch [
-        | then-at w ↦ w.rate-is ∙ sym (ap rate_in (is ∙ one_found _ _ w.if-at.true))
-        | else-at w ↦ w.rate-is ∙ sym (ap rate_in (is ∙ none_found _ _ w.if-at.false))
-      ],
+      c.unwrap_or-rate.ensures ∙ told_rate c.args.stream.now _ ∙ sym (ap rate_in is),
       zero-add _ ∙ ap length (sym is),
     )
 
@@ -34,27 +32,27 @@ overflow_add-frames c =
 pub loop-at-smaller : goal.loop-at-smaller
 loop-at-smaller c =
     let l = c.loop-at in
-    let n = c.next-at-in-loop-at in
+    let n = c.next-at-in-Some in
     let e = n.ensures in
     let s = c.args.stream.now in
     let less : length (heard_from s l.at l.memory l.output) ≡ suc (length (heard_from s n.result n.new.memory n.new.output)) =
-    one_fewer _ _ _ c.loop-at-test.true (heard_next _ _ _ _ _ _ _ _ e.value e.memory_after e.output_after) in
+    one_fewer _ _ _ (ap is_some c.in-Some.is) (heard_next _ _ _ _ _ _ _ _ e.value e.memory_after e.output_after) in
     omega (arith, less)
 
 pub loop-at-preserved : goal.loop-at-preserved
 loop-at-preserved c =
     let l = c.loop-at in
-    let n = c.next-at-in-loop-at in
+    let n = c.next-at-in-Some in
     let e = n.ensures in
     let s = c.args.stream.now in
     let less : length (heard_from s l.at l.memory l.output) ≡ suc (length (heard_from s n.result n.new.memory n.new.output)) =
-    one_fewer _ _ _ c.loop-at-test.true (heard_next _ _ _ _ _ _ _ _ e.value e.memory_after e.output_after) in
+    one_fewer _ _ _ (ap is_some c.in-Some.is) (heard_next _ _ _ _ _ _ _ _ e.value e.memory_after e.output_after) in
     (search rules, search rules, search rules, omega (arith, less, l.invariant.3))
 
 pub returns : goal.returns
 returns c =
     let l = c.loop-at in
     let s = c.args.stream.now in
-    let none = none_found s (record { reached = l.at; memory = l.memory; output = l.output }) c.loop-at-test.false in
+    let none = none_found s (record { reached = l.at; memory = l.memory; output = l.output }) (ap is_some (not_there _ c.in_default.not-Some)) in
     let all : l.frames ≡ length (clip_of s) = omega (arith, l.invariant.3, ap length none) in
     cc (l.invariant.2, all)

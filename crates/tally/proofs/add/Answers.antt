@@ -2,11 +2,11 @@ use Rattle.tally.proofs.add.Goals as goal
 
 pub returns-in-Frame : goal.returns-in-Frame
 returns-in-Frame c =
-    rw (c.more_junk-junk.ensures, c.keep-more.ensures, c.in-Frame.is)
+    rw (c.more_junk-junk.ensures, c.keep.ensures, c.in-Frame.is)
 
 pub returns-in-Refused : goal.returns-in-Refused
 returns-in-Refused c =
-    rw (c.more_junk-junk.ensures, c.keep_at-more.ensures, c.in-Refused.is)
+    rw (c.more_junk-junk.ensures, c.keep_at.ensures, c.in-Refused.is)
 
 pub returns-in-End : goal.returns-in-End
 returns-in-End c =

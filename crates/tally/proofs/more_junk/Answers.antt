@@ -4,8 +4,8 @@ use native.Mathlib.Omega.{arith}
 use borrow.Author.Tests.{eq-eqb, ne_eqb}
 use Rattle.tally.proofs.more_junk.Goals as goal
 
-pub returns-then-frames-eq0 : goal.returns-then-frames-eq0
-returns-then-frames-eq0 c =
+pub returns-then-tally-eq0 : goal.returns-then-tally-eq0
+returns-then-tally-eq0 c =
     let t = c.args.tally in
     rw (eq-eqb t.frames.count 0 (omega arith)) (ap (λ n. t.junk + n) c.skipped.ensures)
 
