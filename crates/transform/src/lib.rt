@@ -2,12 +2,10 @@
 // The transform at each width goes by that of half the width; the stages below are its widths from 2 to 32.
 #![tactic(auto)]
 
-ghost use Rattle.std.specs.Prelude.{◌≡◌, ℕ, ◌+◌, ◌≤◌, ◌<◌, length, take, T, Float};
-ghost use Rattle.std.specs.Float.{binary32};
-ghost use Rattle.std.specs.Float.Ieee.{in_float, of_int};
+ghost use Rattle.std.specs.Prelude.{◌≡◌, ℕ, ◌+◌, ◌≤◌, ◌<◌, length, take, Float};
 ghost use Rattle.transform.specs.Transform.{at, halving_factors, transform, sums_of, differences_of, joined_at, woven_of, usual_factor, other_factor, Small, floats, slot_at, slot_of, idct};
 
-// The factors of the differences at width 32, 8 and 4, as in the source.
+// The factors of the differences at width 32, 16, 8 and 4, as in the source.
 const FACTORS_32: [f32; 16] = [
     0.500602998235,
     0.505470959898,
@@ -27,10 +25,28 @@ const FACTORS_32: [f32; 16] = [
     10.1900081235,
 ];
 
-// The first factor of width 16: in the half of the differences it is another than in the half of the sums.
-const USUAL_FACTOR: f32 = 0.502419286188;
+const FACTORS_16: [f32; 8] = [
+    0.502419286188,
+    0.52249861494,
+    0.566944034816,
+    0.64682178336,
+    0.788154623451,
+    1.06067768599,
+    1.72244709824,
+    5.10114861869,
+];
 
-const OTHER_FACTOR: f32 = 0.500602998235;
+// In the half of the differences the first one of width 16 is another.
+const OTHER_16: [f32; 8] = [
+    0.500602998235,
+    0.52249861494,
+    0.566944034816,
+    0.64682178336,
+    0.788154623451,
+    1.06067768599,
+    1.72244709824,
+    5.10114861869,
+];
 
 const FACTORS_8: [f32; 4] = [
     0.509795579104,
@@ -40,23 +56,6 @@ const FACTORS_8: [f32; 4] = [
 ];
 
 const FACTORS_4: [f32; 2] = [0.541196100146, 1.30656296488];
-
-// Those of width 16, behind the first one.
-#[tactic(auto, unfolding(crate::specs::Transform::halving_factors))]
-fn factors_16(first: f32) -> [f32; 8]
-    ensures { result ≡ halving_factors first 3 }
-{
-    [
-        first,
-        0.52249861494,
-        0.566944034816,
-        0.64682178336,
-        0.788154623451,
-        1.06067768599,
-        1.72244709824,
-        5.10114861869,
-    ]
-}
 
 // The sums of mirrored values, and their differences, each times its factor.
 fn halve(values: &[f32], factors: &[f32], sums: &mut [f32], differences: &mut [f32])
@@ -133,13 +132,13 @@ fn pass8(values: &mut [f32])
 }
 
 // The first factor of this width is given: in the source it is not the same in both halves of the 32.
-fn pass16(values: &mut [f32], first: f32)
-    requires { length values.old ≡ 16 }
-    ensures { values.new ≡ transform 4 first first values.old }
+fn pass16(values: &mut [f32], factors: &[f32])
+    requires { (length values.old ≡ 16) × (factors.now ≡ halving_factors (at factors.now 0) 3) }
+    ensures { values.new ≡ transform 4 (at factors.now 0) (at factors.now 0) values.old }
 {
     let mut sums = [0.0f32; 8];
     let mut differences = [0.0f32; 8];
-    halve(values, &factors_16(first), &mut sums, &mut differences);
+    halve(values, factors, &mut sums, &mut differences);
     pass8(&mut sums);
     pass8(&mut differences);
     weave(&sums, &differences, values);
@@ -152,8 +151,8 @@ fn pass32(values: &mut [f32])
     let mut sums = [0.0f32; 16];
     let mut differences = [0.0f32; 16];
     halve(values, &FACTORS_32, &mut sums, &mut differences);
-    pass16(&mut sums, USUAL_FACTOR);
-    pass16(&mut differences, OTHER_FACTOR);
+    pass16(&mut sums, &FACTORS_16);
+    pass16(&mut differences, &OTHER_16);
     weave(&sums, &differences, values);
 }
 
