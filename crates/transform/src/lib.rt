@@ -5,7 +5,7 @@
 ghost use Rattle.std.specs.Prelude.{◌≡◌, ℕ, ◌+◌, ◌≤◌, ◌<◌, length, take, Float};
 ghost use Rattle.transform.specs.Transform.{at, halving_factors, transform, sums_of, differences_of, joined_at, woven_of, usual_factor, other_factor, Small, floats, slot_at, slot_of, idct};
 
-// The factors of the differences at width 32, 16, 8 and 4, as in the source.
+// The factors of the differences at width 32, 8 and 4, as in the source.
 const FACTORS_32: [f32; 16] = [
     0.500602998235,
     0.505470959898,
@@ -25,29 +25,6 @@ const FACTORS_32: [f32; 16] = [
     10.1900081235,
 ];
 
-const FACTORS_16: [f32; 8] = [
-    0.502419286188,
-    0.52249861494,
-    0.566944034816,
-    0.64682178336,
-    0.788154623451,
-    1.06067768599,
-    1.72244709824,
-    5.10114861869,
-];
-
-// In the half of the differences the first one of width 16 is another.
-const OTHER_16: [f32; 8] = [
-    0.500602998235,
-    0.52249861494,
-    0.566944034816,
-    0.64682178336,
-    0.788154623451,
-    1.06067768599,
-    1.72244709824,
-    5.10114861869,
-];
-
 const FACTORS_8: [f32; 4] = [
     0.509795579104,
     0.601344886935,
@@ -56,6 +33,28 @@ const FACTORS_8: [f32; 4] = [
 ];
 
 const FACTORS_4: [f32; 2] = [0.541196100146, 1.30656296488];
+
+// The first factor of width 16: in the half of the differences it is another than in the half of the sums.
+const USUAL_FACTOR: f32 = 0.502419286188;
+
+const OTHER_FACTOR: f32 = 0.500602998235;
+
+// The factors of width 16, by their first one.
+#[tactic(auto, unfolding(crate::specs::Transform::halving_factors))]
+fn factors_16(first: f32) -> [f32; 8]
+    ensures { result ≡ halving_factors first 3 }
+{
+    [
+        first,
+        0.52249861494,
+        0.566944034816,
+        0.64682178336,
+        0.788154623451,
+        1.06067768599,
+        1.72244709824,
+        5.10114861869,
+    ]
+}
 
 // The sums of mirrored values, and their differences, each times its factor.
 fn halve(values: &[f32], factors: &[f32], sums: &mut [f32], differences: &mut [f32])
@@ -78,9 +77,10 @@ fn joined(second: &[f32], i: usize) -> f32
     requires { i < length second.now }
     ensures { result ≡ joined_at (length second.now) second.now i }
 {
-    match second.get(i + 1) {
-        Some(next) => second[i] + *next,
-        None => second[i],
+    if i + 1 < second.len() {
+        second[i] + second[i + 1]
+    } else {
+        second[i]
     }
 }
 
@@ -132,13 +132,13 @@ fn pass8(values: &mut [f32])
 }
 
 // The first factor of this width is given: in the source it is not the same in both halves of the 32.
-fn pass16(values: &mut [f32], factors: &[f32])
-    requires { (length values.old ≡ 16) × (factors.now ≡ halving_factors (at factors.now 0) 3) }
-    ensures { values.new ≡ transform 4 (at factors.now 0) (at factors.now 0) values.old }
+fn pass16(values: &mut [f32], first: f32)
+    requires { length values.old ≡ 16 }
+    ensures { values.new ≡ transform 4 first first values.old }
 {
     let mut sums = [0.0f32; 8];
     let mut differences = [0.0f32; 8];
-    halve(values, factors, &mut sums, &mut differences);
+    halve(values, &factors_16(first), &mut sums, &mut differences);
     pass8(&mut sums);
     pass8(&mut differences);
     weave(&sums, &differences, values);
@@ -151,8 +151,8 @@ fn pass32(values: &mut [f32])
     let mut sums = [0.0f32; 16];
     let mut differences = [0.0f32; 16];
     halve(values, &FACTORS_32, &mut sums, &mut differences);
-    pass16(&mut sums, &FACTORS_16);
-    pass16(&mut differences, &OTHER_16);
+    pass16(&mut sums, USUAL_FACTOR);
+    pass16(&mut differences, OTHER_FACTOR);
     weave(&sums, &differences, values);
 }
 

@@ -1,17 +1,8 @@
 -- `transform::pass32` meets its contract, by the law of one halving. Assumes nothing.
-use mathlib.Core.Path.{refl}
 use native.Mathlib.Omega.{arith}
 use Rattle.transform.specs.Transform.{halving_factors, usual_factor, other_factor}
 use Rattle.transform.proofs.Halving.{wide}
 use Rattle.transform.proofs.pass32.Goals as goal
-
-pub pass16-requires : goal.pass16-requires
-unfolding halving_factors
-pass16-requires c = (omega arith, refl)
-
-pub pass16-requires-2 : goal.pass16-requires-2
-unfolding halving_factors
-pass16-requires-2 c = (omega arith, refl)
 
 pub returns : goal.returns
 unfolding halving_factors
