@@ -97,11 +97,7 @@ fn clear(memory: &mut [f32])
     requires { length memory.old ≡ memory_length }
     ensures { memory.new ≡ blank }
 {
-    let mut i = 0;
-    while i < MEMORY {
-        memory[i] = 0.0;
-        i += 1;
-    }
+    memory.fill(0.0);
 }
 
 // 8 or 9 of an opening, which has no output; or none.

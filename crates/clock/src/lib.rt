@@ -18,17 +18,16 @@ pub fn start_time(frames: u32, samplerate: usize) -> f64
 }
 
 // The bits of a NaN are not defined, so a NaN is refused first.
+#[tactic(auto, unfolding(crate::specs::Clock::are_same_bits))]
 fn same_bits(x: f64, y: f64) -> bool
     requires { T (not (is_nan y)) }
     ensures { result ≡ are_same_bits x y }
 {
-    if x != x {
-        return false;
-    }
-    f64::to_bits(x) == f64::to_bits(y)
+    !x.is_nan() && x.to_bits() == y.to_bits()
 }
 
 // Whether `time` has the bits of that start: −0.0 is not +0.0 here.
+#[tactic(auto, using(crate::specs::Laws::start_real), unfolding(crate::specs::Clock::on_time))]
 pub fn on_time(time: f64, frames: u32, samplerate: usize) -> bool
     ensures { result ≡ on_time time frames samplerate }
 {

@@ -8,17 +8,19 @@ use borrow.Author.Tests.{le-leb, lt-leb}
 use lib.Dec.{T, eqb, leb, eqb→eq, lit<, lit≤}
 use lib.IntN.{pos, neg_ℤ}
 use lib.Pow.{pow_pos, pow_mono}
-use lib.Ieee.{Float, nan, inf, fin, binary32, up, down, odd, ne, is_nan, fits, of_fields, of_bits, to_bits}
+use lib.Ieee.{Float, nan, inf, fin, binary32, up, down, odd, is_nan, fits, of_fields, of_bits, to_bits}
 use lib.Ieee.Bits.{of_bits-to_bits}
 use lib.Ieee.Exact.{HasValue, odd_sign}
 use lib.Ieee.Fits.{down_pos}
-use Rattle.ground.specs.Floats.{Real, nan_of_other, real_of_same}
+use Rattle.ground.specs.Floats.{Real}
 use Rattle.riff.specs.Level.{half_up, held, level_of, bits16}
 use Rattle.riff.proofs.Rounding.{steps_at, half_same, none, far_below, one_or_more}
 
-pub nan_level : (x : Float) → ne x x ≡ true → 0 ≡ bits16 (level_of x)
-unfolding level_of
-nan_level x h = rw (nan_of_other x h)
+pub nan_level : (x : Float) → true ≡ is_nan x → 0 ≡ bits16 (level_of x)
+unfolding level_of is_nan
+nan_level nan h = refl
+nan_level (inf s) h = cc
+nan_level (fin s m e) h = cc
 
 -- no matter that the steps are held at 32768 already
 held_min : (s : Bool) (n : ℕ) → held s n ≡ held s (min n 32768)
@@ -94,9 +96,9 @@ down_bits zero l = refl
 down_bits (suc n) l = let e : min (suc n) 32768 ≡ suc n = omega arith in rw e (omega arith)
 
 -- n is what `riff::steps` gives for a number x
-module _ (x : Float) (f : fits binary32 x ≡ true) (r : ne x x ≡ false) (n : ℕ) (is : n ≡ away (to_bits binary32 x)) where
+module _ (x : Float) (f : fits binary32 x ≡ true) (r : Real x) (n : ℕ) (is : n ≡ away (to_bits binary32 x)) where
   level : level_of x ≡ held (leb (2 ^ 31) (to_bits binary32 x)) n
-  level = by_bits x (subst T (sym f) tt) (real_of_same x r) ∙ ap (held (leb (2 ^ 31) (to_bits binary32 x))) (sym is)
+  level = by_bits x (subst T (sym f) tt) r ∙ ap (held (leb (2 ^ 31) (to_bits binary32 x))) (sym is)
 
   pub upward : to_bits binary32 x < 2 ^ 31 → min n 32767 ≡ bits16 (level_of x)
   upward l = rw (level, lt-leb (2 ^ 31) (to_bits binary32 x) l)

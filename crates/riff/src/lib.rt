@@ -60,16 +60,13 @@ fn steps(field: u32, digits: u32) -> u32
 pub fn word(x: f32) -> u32
     ensures { result ≡ bits16 (level_of x) }
 {
-    if x != x {
+    if x.is_nan() {
         return SILENCE;
     }
-    let bits = f32::to_bits(x);
+    let bits = x.to_bits();
     let away = steps(exponent(bits), significand(bits));
     if bits < 2147483648 {
-        if away < 32767 {
-            return away;
-        }
-        return 32767;
+        return away.min(32767);
     }
     (65536 - away) % 65536
 }
@@ -79,12 +76,10 @@ pub fn write_samples(values: &[f32], bytes: &mut [u8])
     requires { length bytes.old ≡ 2 * length values.now }
     ensures { bytes.new ≡ pcm_of values.now }
 {
-    let mut i = 0;
-    while i < values.len() {
-        let bits = word(values[i]);
-        bytes[2 * i] = (bits % 256) as u8;
-        bytes[2 * i + 1] = (bits / 256) as u8;
-        i += 1;
+    for (i, x) in values.iter().enumerate() {
+        let [low, high] = (word(*x) as u16).to_le_bytes();
+        bytes[2 * i] = low;
+        bytes[2 * i + 1] = high;
     }
 }
 
@@ -93,10 +88,8 @@ pub fn write_words(values: &[f32], words: &mut [u16])
     requires { length words.old ≡ length values.now }
     ensures { words.new ≡ words_of values.now }
 {
-    let mut i = 0;
-    while i < values.len() {
-        words[i] = word(values[i]) as u16;
-        i += 1;
+    for (i, x) in values.iter().enumerate() {
+        words[i] = word(*x) as u16;
     }
 }
 
@@ -105,17 +98,14 @@ fn put(bytes: &mut [u8; 44], at: usize, n: u32)
     requires { at ≤ 40 }
     ensures { bytes.new ≡ put_at bytes.old at n }
 {
-    bytes[at] = (n % 256) as u8;
-    bytes[at + 1] = (n / 256 % 256) as u8;
-    bytes[at + 2] = (n / 65536 % 256) as u8;
-    bytes[at + 3] = (n / 16777216 % 256) as u8;
+    bytes[at..at + 4].copy_from_slice(&n.to_le_bytes());
 }
 
 // The header of a file with that many frames, at that many samples a second.
 pub fn header(frames: u32, rate: u32) -> [u8; 44]
     requires { (frames ≤ 900000) × (rate ≤ 1000000) }
-    ensures value { result ≡ wave_header_of frames rate }
-    ensures value_2 { 44 ≡ length result }
+    ensures bytes { result ≡ wave_header_of frames rate }
+    ensures len { 44 ≡ length result }
 {
     let data = 4608 * frames;
     let mut bytes = BLANK;

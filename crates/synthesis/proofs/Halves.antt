@@ -2,47 +2,23 @@
 -- From 01, "From samples to sound". Assumes nothing.
 use mathlib.Core.Path.{◌≡◌, refl, ap, ap₂, ◌∙◌}
 use mathlib.Core.List.{List, ◌++◌}
-use Prim.Native.Nat.{ℕ, suc, ◌+◌, ◌-◌, ◌*◌, ◌≤◌, ◌<◌}
+use Prim.Native.Nat.{ℕ, suc, ◌+◌, ◌-◌, ◌*◌, ◌≤◌}
 use native.Mathlib.Numerals.{add-one}
 use native.Mathlib.Omega.{arith}
-use lib.IntN.{ℤ, pos}
-use lib.ListN.{length, take, drop, length-drop}
-use lib.Seq.{take_at, drop_at, drop-drop, get_or-take, get_or-drop, length-take-le}
+use lib.IntN.{ℤ}
+use lib.ListN.{length, take, drop}
+use lib.Seq.{take_at, drop_at, drop-drop}
 use lib.Ieee.{Float}
 use borrow.Rule.Slice.PartMut.{put_mid, mid_of}
-use Rattle.transform.specs.Transform.{idct, Small}
 use Rattle.window.specs.Output.{Place, output_of, stores}
-use Rattle.synthesis.specs.Slots.{memory_length, place_before, position_after, put, slot_ring, ring_after, outputs_at, ring_of, with_rings, interleaved, slot_memory, slot_output, memory_after, output_after, slot_samples}
+use Rattle.synthesis.specs.Slots.{memory_length, place_before, position_after, slot_ring, ring_after, outputs_at, ring_of, with_rings, interleaved, slot_memory, slot_output, memory_after, output_after, slot_samples}
 use Rattle.synthesis.specs.Memory.{with_alike, memory_ring, memory_with}
-
--- ---- one channel
-
-module _ (ring : List Float) (p : ℕ) (samples : List ℤ) (values output result : List Float) (at : ℕ) where
-  -- the part of the ring that was lent comes back as the slot's values
-  pub channel : values ≡ idct samples → result ≡ stores output at (output_of (put_mid p (p + 64 - p) ring values) p) 32
-      → (put_mid p (p + 64 - p) ring values ≡ slot_ring ring p samples) × (result ≡ stores output at (output_of (slot_ring ring p samples) p) 32)
-  unfolding slot_ring put
-  channel e o =
-      let w : p + 64 - p ≡ 64 = omega arith in
-      (rw (w, e), rw (w, e) at o)
 
 -- ---- a slot's samples of one channel, from place a to place e
 
 module _ (samples : List ℤ) (a e : ℕ) (wide : e ≡ a + 32) where
   w : e - a ≡ 32
   w = omega arith
-
-  part_length : e ≤ length samples → length (take 32 (drop a samples)) ≡ 32
-  part_length room = length-take-le 32 (drop a samples) (simp length-drop (omega arith))
-
-  pub part : e ≤ length samples → Small samples → (length (take (e - a) (drop a samples)) ≡ 32) × Small (take (e - a) (drop a samples))
-  part room h =
-      rw w (
-        part_length room,
-        λ i l.
-            let b : i < 32 = omega (arith, part_length room) in
-            rw (get_or-take 32 (drop a samples) i (pos 0) b, get_or-drop a samples i (pos 0)) (h (a + i) (omega arith)),
-      )
 
   pub part_is : (channel n : ℕ) → a ≡ 64 * n + 32 * channel → take (e - a) (drop a samples) ≡ slot_samples samples channel n
   unfolding slot_samples

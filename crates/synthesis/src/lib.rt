@@ -82,11 +82,9 @@ pub fn synthesize(
     ensures output_after { output.new ≡ output_after (slot_samples sample.now) p memory.old output.old at 3 }
 {
     let mut position = p;
-    let mut n = 0;
-    while n < 3 {
+    for n in 0..3 {
         position = (position + 960) % 1024;
         slot(memory, position, sample, n, window, output, at + 64 * n);
-        n += 1;
     }
     position
 }

@@ -6,50 +6,27 @@ use mathlib.Core.Bool.{Bool, true, false, cond}
 use Prim.Native.Nat.{ℕ, suc, ◌+◌, ◌/◌, ◌%◌, ◌^◌, ◌<◌, ◌≤◌}
 use lib.Dec.{eqb}
 use borrow.Author.Tests.{eqb-true, eqb-false}
-use borrow.Author.Count.{below_more}
 use native.Mathlib.Omega.{arith}
-use lib.ListN.{length, take, set, length-set}
-use lib.Seq.{take_all, length-take-le, get_or-take, get_or-set_same, get_or-set_other}
+use lib.ListN.{length, take, set}
+use lib.Seq.{take_all, length-take-le, get_or-take}
 use lib.Ieee.{Float, nan}
 use Rattle.ground.specs.Table.{table, is_table}
 use Rattle.transform.specs.Transform.{at, sum_at, difference_at, sums_of, differences_of, halving_factors, joined_at, woven_at, woven_of, transform}
 
 -- ---- the weave
 
--- the two values that turn k of the weave stores
-abbrev pub Pair : (ℕ → Float) → (ℕ → Float) → List Float → ℕ → Type 0
-Pair p q values k = (at values (k + k) ≡ p k) × (at values (k + k + 1) ≡ q k)
-
-module _ (p q : ℕ → Float) (values : List Float) (i : ℕ) (room : i + i + 1 < length values) where
-  abbrev even : List Float
-  even = set values (i + i) (p i)
-
-  earlier : (k : ℕ) → k < i + i → at (set even (i + i + 1) (q i)) k ≡ at values k
-  earlier k h = get_or-set_other even (i + i + 1) k (q i) nan (λ e. omega arith) ∙ get_or-set_other values (i + i) k (p i) nan (λ e. omega arith)
-
-  pub weave_more : ((k : ℕ) → k < i → Pair p q values k) → (k : ℕ) → k < i + 1 → Pair p q (set even (i + i + 1) (q i)) k
-  weave_more r =
-      below_more (Pair p q (set even (i + i + 1) (q i))) i
-      (λ k h. (
-        earlier (k + k) (omega arith) ∙ (r k h).0,
-        earlier (k + k + 1) (omega arith) ∙ (r k h).1,
-      )) (
-        get_or-set_other even (i + i + 1) (i + i) (q i) nan (λ e. omega arith) ∙ get_or-set_same values (i + i) (p i) nan (omega arith),
-        get_or-set_same even (i + i + 1) (q i) nan (rw length-set room),
-      )
-
 module _ (h : ℕ) (first second values : List Float) where
-  by_parity : (i : ℕ) (t : Bool) → eqb (i % 2) 0 ≡ t → Pair (at first) (joined_at h second) values (i / 2)
+  by_parity : (i : ℕ) (t : Bool) → eqb (i % 2) 0 ≡ t → at values (i / 2 + i / 2) ≡ at first (i / 2) → at values (i / 2 + i / 2 + 1) ≡ joined_at h second (i / 2)
       → at values i ≡ cond t (at first (i / 2)) (joined_at h second (i / 2))
-  by_parity i true e r = let s : i / 2 + i / 2 ≡ i = omega (arith, eqb-true (i % 2) 0 e) in rw s at r.0
-  by_parity i false e r = let s : i / 2 + i / 2 + 1 ≡ i = omega (arith, eqb-false (i % 2) 0 e) in rw s at r.1
+  by_parity i true e even odd = let s : i / 2 + i / 2 ≡ i = omega (arith, eqb-true (i % 2) 0 e) in rw s at even
+  by_parity i false e even odd = let s : i / 2 + i / 2 + 1 ≡ i = omega (arith, eqb-false (i % 2) 0 e) in rw s at odd
 
-  pub is_woven : h + h ≤ length values → ((k : ℕ) → k < h → Pair (at first) (joined_at h second) values k)
+  pub is_woven : h + h ≤ length values → ((k : ℕ) → k < h → at values (k + k) ≡ at first k) → ((k : ℕ) → k < h → at values (k + k + 1) ≡ joined_at h second k)
       → take (h + h) values ≡ woven_of h first second
   unfolding woven_of
-  is_woven l r =
+  is_woven l even odd =
       is_table nan (h + h) (woven_at h first second) (take (h + h) values) (length-take-le (h + h) values l)
-      (λ i b. get_or-take (h + h) values i nan b ∙ by_parity i (eqb (i % 2) 0) refl (r (i / 2) (omega arith)))
+      (λ i b. get_or-take (h + h) values i nan b ∙ by_parity i (eqb (i % 2) 0) refl (even (i / 2) (omega arith)) (odd (i / 2) (omega arith)))
 
 -- ---- from half the width to the whole
 
@@ -65,8 +42,8 @@ narrow f (a ∷ b ∷ c ∷ more) e = absurd (omega arith)
 -- a and b: the transforms of the halves s and t, which values gives by its sums and its differences
 pub wide : (k : ℕ) (f d : Float) (values result s t a b : List Float)
     → length result ≡ 2 ^ k + 2 ^ k → length a ≡ 2 ^ k → take (length a + length a) result ≡ woven_of (length a) a b
-    → (s ≡ sums_of (2 ^ k) values) × (t ≡ differences_of (2 ^ k) (halving_factors f k) values)
+    → s ≡ sums_of (2 ^ k) values → t ≡ differences_of (2 ^ k) (halving_factors f k) values
     → a ≡ transform k f f s → b ≡ transform k d d t → result ≡ transform (suc k) f d values
 unfolding transform
-wide k f d values result s t a b n e w h ra rb =
-    sym (take_all (2 ^ k + 2 ^ k) result (omega arith)) ∙ rw e at w ∙ rw (ra, rb, h.0, h.1)
+wide k f d values result s t a b n e w is it ra rb =
+    sym (take_all (2 ^ k + 2 ^ k) result (omega arith)) ∙ rw e at w ∙ rw (ra, rb, is, it)

@@ -2,12 +2,10 @@
 // The transform at each width goes by that of half the width; the stages below are its widths from 2 to 32.
 #![tactic(auto)]
 
-ghost use Rattle.std.specs.Prelude.{◌≡◌, ℕ, ◌+◌, ◌≤◌, ◌<◌, length, take, T, Float};
-ghost use Rattle.std.specs.Float.{binary32};
-ghost use Rattle.std.specs.Float.Ieee.{in_float, of_int};
+ghost use Rattle.std.specs.Prelude.{◌≡◌, ℕ, ◌+◌, ◌≤◌, ◌<◌, length, take, Float};
 ghost use Rattle.transform.specs.Transform.{at, halving_factors, transform, sums_of, differences_of, joined_at, woven_of, usual_factor, other_factor, Small, floats, slot_at, slot_of, idct};
 
-// The factors of the differences at width 32, 16, 8 and 4, as in the source.
+// The factors of the differences at width 32, 8 and 4, as in the source.
 const FACTORS_32: [f32; 16] = [
     0.500602998235,
     0.505470959898,
@@ -27,29 +25,6 @@ const FACTORS_32: [f32; 16] = [
     10.1900081235,
 ];
 
-const FACTORS_16: [f32; 8] = [
-    0.502419286188,
-    0.52249861494,
-    0.566944034816,
-    0.64682178336,
-    0.788154623451,
-    1.06067768599,
-    1.72244709824,
-    5.10114861869,
-];
-
-// In the half of the differences the first one of width 16 is another.
-const OTHER_16: [f32; 8] = [
-    0.500602998235,
-    0.52249861494,
-    0.566944034816,
-    0.64682178336,
-    0.788154623451,
-    1.06067768599,
-    1.72244709824,
-    5.10114861869,
-];
-
 const FACTORS_8: [f32; 4] = [
     0.509795579104,
     0.601344886935,
@@ -59,6 +34,28 @@ const FACTORS_8: [f32; 4] = [
 
 const FACTORS_4: [f32; 2] = [0.541196100146, 1.30656296488];
 
+// The first factor of width 16: in the half of the differences it is another than in the half of the sums.
+const USUAL_FACTOR: f32 = 0.502419286188;
+
+const OTHER_FACTOR: f32 = 0.500602998235;
+
+// The factors of width 16, by their first one.
+#[tactic(auto, unfolding(crate::specs::Transform::halving_factors))]
+fn factors_16(first: f32) -> [f32; 8]
+    ensures { result ≡ halving_factors first 3 }
+{
+    [
+        first,
+        0.52249861494,
+        0.566944034816,
+        0.64682178336,
+        0.788154623451,
+        1.06067768599,
+        1.72244709824,
+        5.10114861869,
+    ]
+}
+
 // The sums of mirrored values, and their differences, each times its factor.
 fn halve(values: &[f32], factors: &[f32], sums: &mut [f32], differences: &mut [f32])
     requires { (length sums.old + length sums.old ≤ length values.now) × (length differences.old ≡ length sums.old)
@@ -67,13 +64,11 @@ fn halve(values: &[f32], factors: &[f32], sums: &mut [f32], differences: &mut [f
     ensures differences_after { differences.new ≡ differences_of (length sums.old) factors.now values.now }
 {
     let half = sums.len();
-    let mut i = 0;
-    while i < half {
+    for i in 0..half {
         let near = values[i];
         let far = values[half + half - 1 - i];
         sums[i] = near + far;
         differences[i] = (near - far) * factors[i];
-        i += 1;
     }
 }
 
@@ -82,11 +77,11 @@ fn joined(second: &[f32], i: usize) -> f32
     requires { i < length second.now }
     ensures { result ≡ joined_at (length second.now) second.now i }
 {
-    let next = i + 1;
-    if next < second.len() {
-        return second[i] + second[next];
+    if i + 1 < second.len() {
+        second[i] + second[i + 1]
+    } else {
+        second[i]
     }
-    second[i]
 }
 
 // The first half's values at the even places, and between them the second half's with their neighbours added.
@@ -94,11 +89,9 @@ fn weave(first: &[f32], second: &[f32], values: &mut [f32])
     requires { (length second.now ≡ length first.now) × (length first.now + length first.now ≤ length values.old) }
     ensures { take (length first.now + length first.now) values.new ≡ woven_of (length first.now) first.now second.now }
 {
-    let mut i = 0;
-    while i < first.len() {
-        values[i + i] = first[i];
+    for (i, value) in first.iter().enumerate() {
+        values[i + i] = *value;
         values[i + i + 1] = joined(second, i);
-        i += 1;
     }
 }
 
@@ -139,13 +132,13 @@ fn pass8(values: &mut [f32])
 }
 
 // The first factor of this width is given: in the source it is not the same in both halves of the 32.
-fn pass16(values: &mut [f32], factors: &[f32])
-    requires { (length values.old ≡ 16) × (factors.now ≡ halving_factors (at factors.now 0) 3) }
-    ensures { values.new ≡ transform 4 (at factors.now 0) (at factors.now 0) values.old }
+fn pass16(values: &mut [f32], first: f32)
+    requires { length values.old ≡ 16 }
+    ensures { values.new ≡ transform 4 first first values.old }
 {
     let mut sums = [0.0f32; 8];
     let mut differences = [0.0f32; 8];
-    halve(values, factors, &mut sums, &mut differences);
+    halve(values, &factors_16(first), &mut sums, &mut differences);
     pass8(&mut sums);
     pass8(&mut differences);
     weave(&sums, &differences, values);
@@ -158,26 +151,17 @@ fn pass32(values: &mut [f32])
     let mut sums = [0.0f32; 16];
     let mut differences = [0.0f32; 16];
     halve(values, &FACTORS_32, &mut sums, &mut differences);
-    pass16(&mut sums, &FACTORS_16);
-    pass16(&mut differences, &OTHER_16);
+    pass16(&mut sums, USUAL_FACTOR);
+    pass16(&mut differences, OTHER_FACTOR);
     weave(&sums, &differences, values);
-}
-
-fn as_float(sample: i32) -> f32
-    requires { T (in_float binary32 sample) }
-    ensures { result ≡ of_int binary32 sample }
-{
-    sample as f32
 }
 
 fn load(samples: &[i32], values: &mut [f32])
     requires { (length values.old ≡ 32) × (length samples.now ≡ 32) × Small samples.now }
     ensures { values.new ≡ floats samples.now }
 {
-    let mut i = 0;
-    while i < 32 {
-        values[i] = as_float(samples[i]);
-        i += 1;
+    for (i, sample) in samples.iter().enumerate() {
+        values[i] = *sample as f32;
     }
 }
 
@@ -186,16 +170,12 @@ fn spread(results: &[f32], i: usize) -> f32
     requires { (length results.now ≡ 32) × (i < 64) }
     ensures { result ≡ slot_at results.now i }
 {
-    if i < 16 {
-        return results[16 + i];
+    match i {
+        0..=15 => results[16 + i],
+        16 => 0.0,
+        17..=47 => -results[48 - i],
+        _ => -results[i - 48],
     }
-    if i == 16 {
-        return 0.0;
-    }
-    if i < 48 {
-        return -results[48 - i];
-    }
-    -results[i - 48]
 }
 
 // The values of a slot up to `to`, of which those below `from` stand there already.
@@ -204,10 +184,8 @@ fn spread_part(results: &[f32], slot: &mut [f32], from: usize, to: usize)
         × ((k : ℕ) → k < from → at slot.old k ≡ slot_at results.now k) }
     ensures { (k : ℕ) → k < to → at slot.new k ≡ slot_at results.now k }
 {
-    let mut i = from;
-    while i < to {
+    for i in from..to {
         slot[i] = spread(results, i);
-        i += 1;
     }
 }
 
@@ -223,6 +201,7 @@ fn store(results: &[f32], slot: &mut [f32])
 }
 
 // The 64 values of a slot from the 32 samples of a channel.
+#[tactic(auto, unfolding(crate::specs::Transform::idct))]
 pub fn idct36(samples: &[i32], values: &mut [f32])
     requires { (length samples.now ≡ 32) × Small samples.now × (length values.old ≡ 64) }
     ensures { values.new ≡ idct samples.now }

@@ -74,10 +74,8 @@ fn add_products(
     ensures { result ≡ taps ring.now (row + j) (start + j) 8 sum }
 {
     let mut total = sum;
-    let mut k = 0;
-    while k < 8 {
-        total = total + window[(row + 64 * k) % 512 + j] * ring[start + 128 * k + j];
-        k += 1;
+    for k in 0..8 {
+        total += window[(row + 64 * k) % 512 + j] * ring[start + 128 * k + j];
     }
     total
 }
@@ -97,10 +95,8 @@ fn outputs(window: &[f32; 512], ring: &[f32], p: usize, values: &mut [f32])
     requires { (window.now ≡ window_list) × (length ring.now ≡ 1024) × Place p × (length values.old ≡ 32) }
     ensures { values.new ≡ table 32 (output_of ring.now p) }
 {
-    let mut j = 0;
-    while j < 32 {
-        values[j] = output_at(window, ring, p, j);
-        j += 1;
+    for (j, value) in values.iter_mut().enumerate() {
+        *value = output_at(window, ring, p, j);
     }
 }
 
@@ -109,10 +105,8 @@ fn store(values: &[f32], output: &mut [f32], at: usize)
     requires { (length values.now ≡ 32) × (at + 63 ≤ length output.old) }
     ensures { output.new ≡ stores output.old at (λ j. get_or values.now j nan) 32 }
 {
-    let mut j = 0;
-    while j < 32 {
-        output[at + 2 * j] = values[j];
-        j += 1;
+    for (j, value) in values.iter().enumerate() {
+        output[at + 2 * j] = *value;
     }
 }
 

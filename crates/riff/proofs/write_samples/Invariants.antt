@@ -1,12 +1,8 @@
 use mathlib.Core.Path.{◌≡◌}
-use Prim.Native.Nat.{ℕ, ◌-◌, ◌*◌, ◌<◌, ◌≤◌}
-use lib.ListN.{length, get_or}
+use Prim.Native.Nat.{ℕ, ◌*◌, ◌<◌}
+use lib.ListN.{get_or}
 use Rattle.riff.specs.Level.{pcm_of}
 use Rattle.riff.proofs.write_samples.Given as goal
 
 abbrev pub invariant-loop-i : goal.invariant-loop-i
-invariant-loop-i l =
-    (l.i ≤ length l.values) × (length l.bytes ≡ 2 * length l.values) × ((k : ℕ) → k < 2 * l.i → get_or l.bytes k 0 ≡ get_or (pcm_of l.values) k 0)
-
-abbrev pub decreases-loop-i : goal.decreases-loop-i
-decreases-loop-i l = length l.values - l.i
+invariant-loop-i l = (k : ℕ) → k < 2 * l.i → get_or l.bytes k 0 ≡ get_or (pcm_of l.values) k 0

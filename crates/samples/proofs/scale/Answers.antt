@@ -1,21 +1,16 @@
 -- `samples::scale` meets its contract: the grouped quantisers one by one, the others by the rule.
-use Rattle.std.proofs.Common.{rules}
-use Prim.Native.Nat.{◌≤◌}
-use native.Mathlib.Omega.{arith}
+use Rattle.std.proofs.Common.{arith, rules}
 use Rattle.tables.specs.Standard.{classes, quantisation_of, levels_of}
 use Rattle.tables.specs.Laws.{bits≤16}
 use Rattle.samples.specs.Sample.{scale_of}
 use Rattle.samples.proofs.Quantisers.{scale_rule}
 use Rattle.samples.proofs.scale.Goals as goal
 
-small : (c : goal.After-code_bits) → c.code_bits.result ≤ 16
-small c = rw c.code_bits.ensures (bits≤16 c.args.q)
-
 pub overflow_cast-result : goal.overflow_cast-result
-overflow_cast-result c = omega (arith, small c)
+overflow_cast-result c = omega (arith, c.code_bits.ensures, bits≤16 c.args.q)
 
 pub overflow_shr-result : goal.overflow_shr-result
-overflow_shr-result c = omega (arith, small c)
+overflow_shr-result c = omega (arith, c.code_bits.ensures, bits≤16 c.args.q)
 
 pub returns-in-1 : goal.returns-in-1
 unfolding scale_of levels_of quantisation_of classes
@@ -31,4 +26,4 @@ returns-in-4 c = rw c.in-4.is
 
 pub returns-in_default : goal.returns-in_default
 returns-in_default c =
-    rw c.code_bits.ensures (scale_rule c.args.q c.requires.1 (λ e. search rules) (λ e. search rules) (λ e. search rules))
+    rw c.code_bits.ensures (scale_rule c.args.q c.requires.1 (search rules) (search rules) (search rules))

@@ -5,19 +5,8 @@ use native.Mathlib.Omega.{arith}
 use lib.ListN.{length}
 use lib.Seq.{length-take-le}
 use Rattle.synthesis.specs.Slots.{memory_length, ring_of, slot_samples}
-use Rattle.synthesis.proofs.Halves.{part, part_is, both}
-use borrow.Author.Rules.{rules}
+use Rattle.synthesis.proofs.Halves.{part_is, both}
 use Rattle.synthesis.proofs.slot.Goals as goal
-
-pub channel_slot-requires : goal.channel_slot-requires
-channel_slot-requires c =
-    let t = part c.args.sample.now (64 * c.args.n) (64 * c.args.n + 32) refl (omega arith) c.requires.3 in
-    (c.requires.0, search rules, t.0, t.1, c.requires.5, omega arith)
-
-pub channel_slot-requires-2 : goal.channel_slot-requires-2
-channel_slot-requires-2 c =
-    let t = part c.args.sample.now (64 * c.args.n + 32) (64 * c.args.n + 32 + 32) refl (omega arith) c.requires.3 in
-    (c.requires.0, search rules, t.0, t.1, c.requires.5, search rules)
 
 pub returns : goal.returns
 unfolding ring_of

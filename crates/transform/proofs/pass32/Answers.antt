@@ -1,20 +1,11 @@
 -- `transform::pass32` meets its contract, by the law of one halving. Assumes nothing.
-use mathlib.Core.Path.{refl}
 use native.Mathlib.Omega.{arith}
 use Rattle.transform.specs.Transform.{halving_factors, usual_factor, other_factor}
 use Rattle.transform.proofs.Halving.{wide}
 use Rattle.transform.proofs.pass32.Goals as goal
 
-pub pass16-requires : goal.pass16-requires
-unfolding halving_factors
-pass16-requires c = (omega arith, refl)
-
-pub pass16-requires-2 : goal.pass16-requires-2
-unfolding halving_factors
-pass16-requires-2 c = (omega arith, refl)
-
 pub returns : goal.returns
 unfolding halving_factors
 returns c =
     wide 4 usual_factor other_factor _ _ _ _ _ _ (omega arith) (omega arith)
-    c.weave.ensures (c.halve.ensures.sums_after, c.halve.ensures.differences_after) c.pass16.ensures c.pass16-2.ensures
+    c.weave.ensures c.halve.ensures.sums_after c.halve.ensures.differences_after c.pass16.ensures c.pass16-2.ensures

@@ -8,4 +8,4 @@ pub returns : goal.returns
 unfolding halving_factors
 returns c =
     λ f. wide 2 f f _ _ _ _ _ _ (omega arith) (omega arith)
-    c.weave.ensures (c.halve.ensures.sums_after, c.halve.ensures.differences_after) (c.pass4.ensures f) (c.pass4-2.ensures f)
+    c.weave.ensures c.halve.ensures.sums_after c.halve.ensures.differences_after (c.pass4.ensures f) (c.pass4-2.ensures f)

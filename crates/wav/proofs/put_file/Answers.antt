@@ -31,21 +31,21 @@ pub put-told-requires : goal.put-told-requires
 put-told-requires c =
     let s = c.args.stream.now in
     let begun : Rest (wave_of s) c.nothing_yet.result.bytes (c.header-header.result ++ joined (frame_parts (clip_of s))) =
-    let is = c.header-header.ensures.value ∙ ap (λ (x : Counted). wave_header_of x.frames x.rate) c.count-counted.ensures in
+    let is = c.header-header.ensures.bytes ∙ ap (λ (x : Counted). wave_header_of x.frames x.rate) c.count-counted.ensures in
     nothing_written c.nothing_yet.ensures.bytes_value (header_first s c.requires ∙ ap (λ (header : List ℕ). header ++ joined (frame_parts (clip_of s))) (sym is)) in
-    record { piece_bound = omega (arith, c.nothing_yet.ensures.bytes_value, c.header-header.ensures.value_2); next = rest_next c.header-header.result _ begun }
+    record { piece_bound = omega (arith, c.nothing_yet.ensures.bytes_value, c.header-header.ensures.len); next = rest_next c.header-header.result _ begun }
 
 pub put_frames-requires : goal.put_frames-requires
 put_frames-requires c =
     let s = c.args.stream.now in
     let begun : Rest (wave_of s) c.nothing_yet.result.bytes (c.header-header.result ++ joined (frame_parts (clip_of s))) =
-    let is = c.header-header.ensures.value ∙ ap (λ (x : Counted). wave_header_of x.frames x.rate) c.count-counted.ensures in
+    let is = c.header-header.ensures.bytes ∙ ap (λ (x : Counted). wave_header_of x.frames x.rate) c.count-counted.ensures in
     nothing_written c.nothing_yet.ensures.bytes_value (header_first s c.requires ∙ ap (λ (header : List ℕ). header ++ joined (frame_parts (clip_of s))) (sym is)) in
     let put = c.put-told.ensures in record {
       stream_len_bound = (
         c.requires,
         ap (λ (x : Counted). x.frames) c.count-counted.ensures,
-        omega (arith, put, c.nothing_yet.ensures.bytes_value, c.header-header.ensures.value_2),
+        omega (arith, put, c.nothing_yet.ensures.bytes_value, c.header-header.ensures.len),
       );
       rest = rest_behind c.header-header.result _ put begun;
     }

@@ -1,10 +1,7 @@
 use mathlib.Core.Path.{◌≡◌}
-use Prim.Native.Nat.{◌+◌, ◌-◌, ◌≤◌}
+use Prim.Native.Nat.{◌+◌}
 use Rattle.window.specs.Output.{taps}
 use Rattle.window.proofs.add_products.Given as goal
 
 abbrev pub invariant-loop-k : goal.invariant-loop-k
-invariant-loop-k l = (l.k ≤ 8) × (l.total ≡ taps l.ring (l.row + l.j) (l.start + l.j) l.k l.sum)
-
-abbrev pub decreases-loop-k : goal.decreases-loop-k
-decreases-loop-k l = 8 - l.k
+invariant-loop-k l = l.total ≡ taps l.ring (l.row + l.j) (l.start + l.j) l.k l.sum
