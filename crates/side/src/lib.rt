@@ -7,9 +7,12 @@ ghost use Rattle.tables.specs.Source.{step4};
 ghost use Rattle.ground.specs.Stores.{three};
 ghost use Rattle.side.specs.Bands.{channels_of, allocated_of};
 ghost use Rattle.side.specs.Side.{cut_of, allocation_of, allocation_band_of, allocations_of, selector_of, selectors_of, factors_of, place_factors_of, scale_factors_of, side_of};
-ghost use Rattle.side.specs.Below.{side_with};
+ghost use Rattle.side.specs.Info.{side_in};
 
-use buffer::Reader;
+mod info;
+
+use buffer::{Reader, Taken};
+pub use info::{Layout, SideInfo};
 
 // The bound, no higher than the limit.
 pub fn cut(bound: usize, limit: usize) -> usize
@@ -42,39 +45,29 @@ fn allocation_band(
     reader: Reader,
     s: &[u8],
     quantisers: &[[u8; 16]; 5],
-    table: usize,
-    bound: usize,
+    layout: Layout,
     sb: usize,
     quant: &mut [u8; 64],
 ) -> Reader
-    requires { (quantisers.now ≡ step4) × (table < 2) × (sb < 32) }
-    ensures { taken quant.new result ≡ run (allocation_band_of table bound sb quant.old) s.now reader }
+    requires { (quantisers.now ≡ step4) × (sb < 32) }
+    ensures { taken quant.new result ≡ run (allocation_band_of layout.table layout.bound sb quant.old) s.now reader }
 {
-    let left = read_allocation(reader, s, quantisers, table, sb, sb, quant);
-    if sb < bound {
-        return read_allocation(left, s, quantisers, table, sb, sb + 32, quant);
+    let left = read_allocation(reader, s, quantisers, layout.table, sb, sb, quant);
+    if sb < layout.bound {
+        return read_allocation(left, s, quantisers, layout.table, sb, sb + 32, quant);
     }
     quant[sb + 32] = quant[sb];
     left
 }
 
-fn allocations(
-    reader: Reader,
-    s: &[u8],
-    table: usize,
-    bound: usize,
-    limit: usize,
-    quant: &mut [u8; 64],
-) -> Reader
-    requires { (table < 2) × (limit ≤ 32) }
-    ensures { taken quant.new result ≡ run (allocations_of table bound limit quant.old) s.now reader }
+fn allocations(reader: Reader, s: &[u8], layout: Layout, quant: &mut [u8; 64]) -> Reader
+    ensures { taken quant.new result
+        ≡ run (allocations_of layout.table layout.bound layout.limit quant.old) s.now reader }
 {
     let quantisers = tables::allocation_quantisers();
     let mut next = reader;
-    let mut sb = 0;
-    while sb < limit {
-        next = allocation_band(next, s, &quantisers, table, bound, sb, quant);
-        sb += 1;
+    for sb in 0..layout.limit {
+        next = allocation_band(next, s, &quantisers, layout, sb, quant);
     }
     next
 }
@@ -121,30 +114,27 @@ fn selectors(
     reader: Reader,
     s: &[u8],
     quant: &[u8; 64],
-    mono: bool,
-    limit: usize,
+    layout: Layout,
     selector: &mut [u8; 64],
 ) -> Reader
-    requires { limit ≤ 32 }
-    ensures { taken selector.new result ≡ run (selectors_of mono quant.now limit selector.old) s.now reader }
+    ensures { taken selector.new result
+        ≡ run (selectors_of layout.mono quant.now layout.limit selector.old) s.now reader }
 {
     let mut next = reader;
-    let mut sb = 0;
-    while sb < limit {
-        next = selector_band(next, s, quant, mono, sb, selector);
-        sb += 1;
+    for sb in 0..layout.limit {
+        next = selector_band(next, s, quant, layout.mono, sb, selector);
     }
     next
 }
 
-// The factors of a place, one for each part of the frame.
-fn store_factors(factor: &mut [u32; 192], place: usize, a: u32, b: u32, c: u32)
+// The three values of a place: its factors, one for each part of the frame, or its samples, one for each slot of a granule.
+pub fn store_three<T: Copy>(values: &mut [T; 192], place: usize, a: T, b: T, c: T)
     requires { place < 64 }
-    ensures { factor.new ≡ three place a b c factor.old }
+    ensures { values.new ≡ three place a b c values.old }
 {
-    factor[place] = a;
-    factor[place + 64] = b;
-    factor[place + 128] = c;
+    values[place] = a;
+    values[place + 64] = b;
+    values[place + 128] = c;
 }
 
 // The scale factors of a place, as its selector says.
@@ -162,7 +152,7 @@ fn read_factors(
     let one = x.next;
     let a = samples::factor(x.value);
     if selector == 2 {
-        store_factors(factor, place, a, a, a);
+        store_three(factor, place, a, a, a);
         return one;
     }
     let y = one.field(s, 6);
@@ -171,14 +161,14 @@ fn read_factors(
     if selector == 0 {
         let z = two.field(s, 6);
         let last = z.next;
-        store_factors(factor, place, a, b, samples::factor(z.value));
+        store_three(factor, place, a, b, samples::factor(z.value));
         return last;
     }
     if selector == 1 {
-        store_factors(factor, place, a, a, b);
+        store_three(factor, place, a, a, b);
         return two;
     }
-    store_factors(factor, place, a, b, b);
+    store_three(factor, place, a, b, b);
     two
 }
 
@@ -225,51 +215,37 @@ fn scale_factors(
     s: &[u8],
     quant: &[u8; 64],
     selector: &[u8; 64],
-    mono: bool,
-    limit: usize,
+    layout: Layout,
     factor: &mut [u32; 192],
 ) -> Reader
-    requires { limit ≤ 32 }
     ensures { taken factor.new result
-        ≡ run (scale_factors_of mono quant.now selector.now limit factor.old) s.now reader }
+        ≡ run (scale_factors_of layout.mono quant.now selector.now layout.limit factor.old) s.now reader }
 {
     let mut next = reader;
-    let mut sb = 0;
-    while sb < limit {
-        next = scale_band(next, s, quant, selector, mono, sb, factor);
-        sb += 1;
+    for sb in 0..layout.limit {
+        next = scale_band(next, s, quant, selector, layout.mono, sb, factor);
     }
     next
 }
 
 // What stands before the codes, and the reader after it.
-#[derive(Clone, Copy)]
-pub struct SideInfo {
-    pub reader: Reader,
-    pub quant: [u8; 64],
-    pub factor: [u32; 192],
-}
-
-pub fn read_side(
-    reader: Reader,
-    s: &[u8],
-    mono: bool,
-    table: usize,
-    bound: usize,
-    limit: usize,
-) -> SideInfo
-    requires { (table < 2) × (limit ≤ 32) }
-    ensures { taken (side_with result.quant result.factor) result.reader ≡ run (side_of mono table bound limit) s.now reader }
+pub fn read_side(reader: Reader, s: &[u8], layout: Layout) -> Taken<SideInfo>
+    ensures side { taken (side_in result.value) result.next
+        ≡ run (side_of layout.mono layout.table layout.bound layout.limit) s.now reader }
+    ensures layout { result.value.layout ≡ layout }
 {
     let mut quant = [0u8; 64];
     let mut selector = [0u8; 64];
     let mut factor = [0u32; 192];
-    let allocated = allocations(reader, s, table, bound, limit, &mut quant);
-    let selected = selectors(allocated, s, &quant, mono, limit, &mut selector);
-    let scaled = scale_factors(selected, s, &quant, &selector, mono, limit, &mut factor);
-    SideInfo {
-        reader: scaled,
-        quant,
-        factor,
+    let allocated = allocations(reader, s, layout, &mut quant);
+    let selected = selectors(allocated, s, &quant, layout, &mut selector);
+    let scaled = scale_factors(selected, s, &quant, &selector, layout, &mut factor);
+    Taken {
+        value: SideInfo {
+            layout,
+            quant,
+            factor,
+        },
+        next: scaled,
     }
 }

@@ -1,4 +1,3 @@
-use Prim.Native.Nat.{◌≤◌, ◌-◌}
 use mathlib.Core.Path.{◌≡◌}
 use Rattle.grammar.specs.Reads.{run, taken}
 use Rattle.side.specs.Side.{scale_factors_of}
@@ -6,7 +5,4 @@ use Rattle.side.proofs.scale_factors.Given as goal
 
 abbrev pub invariant-loop-sb : goal.invariant-loop-sb
 invariant-loop-sb l =
-    (l.sb ≤ l.limit) × (taken l.factor l.next ≡ run (scale_factors_of l.mono l.quant l.selector l.sb l.initial.factor) l.s l.initial.next)
-
-abbrev pub decreases-loop-sb : goal.decreases-loop-sb
-decreases-loop-sb l = l.limit - l.sb
+    taken l.factor l.next ≡ run (scale_factors_of l.layout.mono l.quant l.selector l.sb l.initial.factor) l.s l.initial.next

@@ -1,4 +1,3 @@
-use Prim.Native.Nat.{◌≤◌, ◌-◌}
 use mathlib.Core.Path.{◌≡◌}
 use Rattle.grammar.specs.Reads.{run, taken}
 use Rattle.side.specs.Side.{selectors_of}
@@ -6,7 +5,4 @@ use Rattle.side.proofs.selectors.Given as goal
 
 abbrev pub invariant-loop-sb : goal.invariant-loop-sb
 invariant-loop-sb l =
-    (l.sb ≤ l.limit) × (taken l.selector l.next ≡ run (selectors_of l.mono l.quant l.sb l.initial.selector) l.s l.initial.next)
-
-abbrev pub decreases-loop-sb : goal.decreases-loop-sb
-decreases-loop-sb l = l.limit - l.sb
+    taken l.selector l.next ≡ run (selectors_of l.layout.mono l.quant l.sb l.initial.selector) l.s l.initial.next
