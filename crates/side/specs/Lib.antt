@@ -5,3 +5,4 @@ pub mod Info
 pub mod Values
 pub mod Widths
 pub mod Rows
+pub mod Callers

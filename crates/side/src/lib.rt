@@ -2,10 +2,12 @@
 #![tactic(auto)]
 
 ghost use Rattle.std.specs.Prelude.{◌≡◌, ◌≤◌, ◌<◌};
-ghost use Rattle.grammar.specs.Reads.{run, taken};
+ghost use Rattle.std.specs.Prelude.{ℕ, List};
+ghost use Rattle.grammar.specs.Reads.{Reads, run, taken};
 ghost use Rattle.tables.specs.Source.{step4};
 ghost use Rattle.ground.specs.Stores.{three};
-ghost use Rattle.side.specs.Bands.{channels_of, allocated_of};
+ghost use Rattle.side.specs.Bands.{bands, channels_of, allocated_of};
+ghost use Rattle.side.specs.Callers.{TakesPlaces, ReadsAs};
 ghost use Rattle.side.specs.Side.{cut_of, allocation_of, allocation_band_of, allocations_of, selector_of, selectors_of, factors_of, place_factors_of, scale_factors_of, side_of};
 ghost use Rattle.side.specs.Info.{side_in};
 
@@ -35,9 +37,8 @@ fn read_allocation(
     ensures { taken quant.new result ≡ run (allocation_of table sb place quant.old) s.now reader }
 {
     let f = reader.field(s, tables::allocation_bits(table, sb));
-    let next = f.next;
     quant[place] = tables::quantiser(quantisers, table, sb, f.value as usize);
-    next
+    f.next
 }
 
 // One subband: below the bound an allocation for each channel, from there on one for both.
@@ -72,57 +73,60 @@ fn allocations(reader: Reader, s: &[u8], layout: Layout, quant: &mut [u8; 64]) -
     next
 }
 
-fn read_selector(
+// The fields of a place, where it is allocated.
+fn where_allocated<T, F: Fn(Reader, usize, &mut T) -> Reader>(
     reader: Reader,
-    s: &[u8],
     quant: &[u8; 64],
     place: usize,
-    selector: &mut [u8; 64],
+    read: &F,
+    fields: &mut T,
 ) -> Reader
-    requires { place < 64 }
-    ensures { taken selector.new result ≡ run (allocated_of quant.now selector_of place selector.old) s.now reader }
+    requires { (place < 64) × TakesPlaces (F.pre read.now) }
+    ensures { (s : List ℕ) (one : ℕ → T → Reads T) → ReadsAs (F.post read.now) one s
+        → taken fields.new result ≡ run (allocated_of quant.now one place fields.old) s reader }
 {
     if quant[place] == 0 {
         return reader;
     }
-    let f = reader.field(s, 2);
-    let next = f.next;
-    selector[place] = f.value as u8;
-    next
+    read(reader, place, fields)
 }
 
-fn selector_band(
+// A subband: the left channel's place, and unless mono the right's.
+fn each_channel<T, F: Fn(Reader, usize, &mut T) -> Reader>(
     reader: Reader,
-    s: &[u8],
     quant: &[u8; 64],
     mono: bool,
     sb: usize,
-    selector: &mut [u8; 64],
+    read: &F,
+    fields: &mut T,
 ) -> Reader
-    requires { sb < 32 }
-    ensures { taken selector.new result
-        ≡ run (channels_of mono (allocated_of quant.now selector_of) sb selector.old) s.now reader }
+    requires { (sb < 32) × TakesPlaces (F.pre read.now) }
+    ensures { (s : List ℕ) (one : ℕ → T → Reads T) → ReadsAs (F.post read.now) one s
+        → taken fields.new result ≡ run (channels_of mono (allocated_of quant.now one) sb fields.old) s reader }
 {
-    let left = read_selector(reader, s, quant, sb, selector);
+    let left = where_allocated(reader, quant, sb, read, fields);
     if mono {
         return left;
     }
-    read_selector(left, s, quant, sb + 32, selector)
+    where_allocated(left, quant, sb + 32, read, fields)
 }
 
-fn selectors(
+// The fields of each allocated place below the limit, as `read` reads one.
+fn each_allocated<T, F: Fn(Reader, usize, &mut T) -> Reader>(
     reader: Reader,
-    s: &[u8],
     quant: &[u8; 64],
     layout: Layout,
-    selector: &mut [u8; 64],
+    read: F,
+    fields: &mut T,
 ) -> Reader
-    ensures { taken selector.new result
-        ≡ run (selectors_of layout.mono quant.now layout.limit selector.old) s.now reader }
+    requires { TakesPlaces (F.pre read) }
+    ensures { (s : List ℕ) (one : ℕ → T → Reads T) → ReadsAs (F.post read) one s
+        → taken fields.new result
+        ≡ run (bands (channels_of layout.mono (allocated_of quant.now one)) layout.limit fields.old) s reader }
 {
     let mut next = reader;
     for sb in 0..layout.limit {
-        next = selector_band(next, s, quant, layout.mono, sb, selector);
+        next = each_channel(next, quant, layout.mono, sb, &read, fields);
     }
     next
 }
@@ -149,83 +153,33 @@ fn read_factors(
     ensures { taken factor.new result ≡ run (factors_of selector place factor.old) s.now reader }
 {
     let x = reader.field(s, 6);
-    let one = x.next;
     let a = samples::factor(x.value);
     if selector == 2 {
         store_three(factor, place, a, a, a);
-        return one;
+        return x.next;
     }
-    let y = one.field(s, 6);
-    let two = y.next;
+    let y = x.next.field(s, 6);
     let b = samples::factor(y.value);
     if selector == 0 {
-        let z = two.field(s, 6);
-        let last = z.next;
+        let z = y.next.field(s, 6);
         store_three(factor, place, a, b, samples::factor(z.value));
-        return last;
+        return z.next;
     }
     if selector == 1 {
         store_three(factor, place, a, a, b);
-        return two;
+        return y.next;
     }
     store_three(factor, place, a, b, b);
-    two
+    y.next
 }
 
-fn read_scale(
-    reader: Reader,
-    s: &[u8],
-    quant: &[u8; 64],
-    selector: &[u8; 64],
-    place: usize,
-    factor: &mut [u32; 192],
-) -> Reader
+fn read_selector(reader: Reader, s: &[u8], place: usize, selector: &mut [u8; 64]) -> Reader
     requires { place < 64 }
-    ensures { taken factor.new result
-        ≡ run (place_factors_of quant.now selector.now place factor.old) s.now reader }
+    ensures { taken selector.new result ≡ run (selector_of place selector.old) s.now reader }
 {
-    if quant[place] == 0 {
-        return reader;
-    }
-    read_factors(reader, s, selector[place], place, factor)
-}
-
-fn scale_band(
-    reader: Reader,
-    s: &[u8],
-    quant: &[u8; 64],
-    selector: &[u8; 64],
-    mono: bool,
-    sb: usize,
-    factor: &mut [u32; 192],
-) -> Reader
-    requires { sb < 32 }
-    ensures { taken factor.new result
-        ≡ run (channels_of mono (place_factors_of quant.now selector.now) sb factor.old) s.now reader }
-{
-    let left = read_scale(reader, s, quant, selector, sb, factor);
-    if mono {
-        return left;
-    }
-    read_scale(left, s, quant, selector, sb + 32, factor)
-}
-
-fn scale_factors(
-    reader: Reader,
-    s: &[u8],
-    quant: &[u8; 64],
-    selector: &[u8; 64],
-    layout: Layout,
-    factor: &mut [u32; 192],
-) -> Reader
-    ensures { taken factor.new result
-        ≡ run (scale_factors_of layout.mono quant.now selector.now layout.limit factor.old) s.now reader }
-{
-    let mut next = reader;
-    for sb in 0..layout.limit {
-        next = scale_band(next, s, quant, selector, layout.mono, sb, factor);
-    }
-    next
+    let f = reader.field(s, 2);
+    selector[place] = f.value as u8;
+    f.next
 }
 
 // What stands before the codes, and the reader after it.
@@ -238,8 +192,28 @@ pub fn read_side(reader: Reader, s: &[u8], layout: Layout) -> Taken<SideInfo>
     let mut selector = [0u8; 64];
     let mut factor = [0u32; 192];
     let allocated = allocations(reader, s, layout, &mut quant);
-    let selected = selectors(allocated, s, &quant, layout, &mut selector);
-    let scaled = scale_factors(selected, s, &quant, &selector, layout, &mut factor);
+    let selected = each_allocated(
+        allocated,
+        &quant,
+        layout,
+        |reader: Reader, place: usize, selector: &mut [u8; 64]| read_selector(
+            reader, s, place, selector,
+        ),
+        &mut selector,
+    );
+    let scaled = each_allocated(
+        selected,
+        &quant,
+        layout,
+        |reader: Reader, place: usize, factor: &mut [u32; 192]| read_factors(
+            reader,
+            s,
+            selector[place],
+            place,
+            factor,
+        ),
+        &mut factor,
+    );
     Taken {
         value: SideInfo {
             layout,
