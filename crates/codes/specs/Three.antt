@@ -1,6 +1,6 @@
 -- Three codes of one width read at once are the three read one by one, where all their bits are there.
 -- Assumes nothing.
-use Rattle.std.specs.Prelude.{ℕ, ◌+◌, ◌*◌, ◌/◌, ◌%◌, ◌^◌, ◌≤◌, ◌<◌, ◌≡◌, refl, List, ltb, length}
+use Rattle.std.specs.Prelude.{ℕ, ◌+◌, ◌*◌, ◌/◌, ◌%◌, ◌^◌, ◌≤◌, ◌<◌, ◌≡◌, refl, List, ltb, length, Result}
 use Rattle.std.proofs.Common.{ap, ◌∙◌, add_assoc, arith, ltb-false}
 use Rattle.std.proofs.Math.Pow.{high, low}
 use Rattle.ground.specs.Tests.{by_test}
@@ -9,7 +9,7 @@ use Rattle.buffer.specs.Calls.{or_zero, read_of, field_of, reader_at, left}
 use Rattle.buffer.specs.Laws.{split, bits_below, Enough, field_whole}
 use Rattle.buffer.specs.declared.Reader.{Reader}
 use Rattle.buffer.specs.declared.Taken.{Taken}
-use Rattle.buffer.specs.declared.Read.{Read}
+use Rattle.refusal.specs.declared.Refusal.{Refusal}
 use Rattle.grammar.specs.Reads.{run, taken}
 use Rattle.samples.specs.declared.Three.{Three}
 use Rattle.codes.specs.Frame.{singles_of}
@@ -22,7 +22,7 @@ cut_in_three value bits = record { first = value / 2 ^ bits / 2 ^ bits; second =
 pub moved_enough : (s : List ℕ) (r : Reader) (n : ℕ) → ((field_of s r n).next.at.0 ≡ r.at.0 → ⊥) → Enough s r n
 unfolding field_of read_of
 moved_enough s r n =
-    let P : Read → Type 0 = λ x. ((or_zero r x).next.at.0 ≡ r.at.0 → ⊥) → Enough s r n in
+    let P : Result (Taken ℕ) Refusal → Type 0 = λ x. ((or_zero r x).next.at.0 ≡ r.at.0 → ⊥) → Enough s r n in
     by_test P (ltb longest_stream (length s)) _ _ (λ _ m. absurd (m refl))
     (λ a. by_test P (ltb farthest_bit r.at.0) _ _ (λ _ m. absurd (m refl))
     (λ b. by_test P (ltb 32 n) _ _ (λ _ m. absurd (m refl))

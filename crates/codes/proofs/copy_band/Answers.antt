@@ -22,4 +22,4 @@ returns c =
     let at = a.sample.now in
     simp
     (kept (get_or at a.sb (pos 0)) c.x-1.given, kept (get_or at (a.sb + 64) (pos 0)) c.y-1.given, kept (get_or at (a.sb + 128) (pos 0)) c.z-1.given)
-    at c.store_samples.ensures
+    at c.store_three.ensures

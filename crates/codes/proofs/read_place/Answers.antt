@@ -7,7 +7,7 @@ use Rattle.codes.specs.Frame.{place_of}
 use Rattle.codes.proofs.read_place.Goals as goal
 
 pub overflow_cast-q : goal.overflow_cast-q
-overflow_cast-q c = omega (arith, c.requires.2.each c.args.place)
+overflow_cast-q c = omega (arith, c.args.side.now.ranged.quant.each c.args.place)
 
 pub returns-then-q-eq0 : goal.returns-then-q-eq0
 unfolding place_of
@@ -17,8 +17,8 @@ pub read_samples-requires : goal.read_samples-requires
 read_samples-requires c =
     let a = c.args in (
       omega (arith, c.if-q-eq0.false),
-      c.requires.2.each a.place,
-      omega (arith, c.requires.3.each (a.part * 64 + a.place)),
+      a.side.now.ranged.quant.each a.place,
+      omega (arith, a.side.now.ranged.factor.each (a.part * 64 + a.place)),
       c.requires.1,
     )
 
