@@ -20,7 +20,7 @@ pub use info::{Layout, SideInfo};
 pub fn cut(bound: usize, limit: usize) -> usize
     ensures { result ≡ cut_of bound limit }
 {
-    if bound < limit { bound } else { limit }
+    bound.min(limit)
 }
 
 // One allocation, for the place in one channel.

@@ -3,15 +3,6 @@ use Rattle.frame.specs.Frame.{frame_memory, frame_output}
 use Rattle.frame.proofs.Whole.{whole}
 use Rattle.frame.proofs.decode_frame.Goals as goal
 
-pub granules-requires : goal.granules-requires
-granules-requires c =
-    record {
-      place = c.requires.1;
-      window_is = c.synthesis_window-window.ensures;
-      memory_long = c.requires.2;
-      output_long = c.requires.3;
-    }
-
 -- the granules behind the side information are the whole frame's
 pub returns : goal.returns
 returns c =

@@ -3,18 +3,7 @@ use borrow.Author.Tests.{lt-ltb, le-ltb}
 use Rattle.grammar.specs.Run.{run_done, and_then}
 use Rattle.side.specs.Bands.{pair_of}
 use Rattle.side.specs.Side.{allocation_band_of}
-use native.Mathlib.Omega.{arith}
 use Rattle.side.proofs.allocation_band.Goals as goal
-
-pub read_allocation-left-requires : goal.read_allocation-left-requires
-read_allocation-left-requires c =
-    let p = c.requires in
-    (p.0, c.args.layout.tables, p.1, omega (arith, p.1))
-
-pub read_allocation-requires : goal.read_allocation-requires
-read_allocation-requires c =
-    let p = c.requires in
-    (p.0, c.args.layout.tables, p.1, omega (arith, p.1))
 
 pub returns-then-sb-layout : goal.returns-then-sb-layout
 unfolding allocation_band_of pair_of
