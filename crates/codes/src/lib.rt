@@ -4,36 +4,28 @@
 ghost use Rattle.std.specs.Prelude.{◌≡◌, ◌≤◌, ◌<◌};
 ghost use Rattle.grammar.specs.Reads.{run, taken};
 ghost use Rattle.ground.specs.Stores.{three};
-ghost use Rattle.side.specs.Below.{Below, side_with};
+ghost use Rattle.side.specs.Info.{side_in};
 ghost use Rattle.codes.specs.Three.{cut_in_three};
 ghost use Rattle.codes.specs.Frame.{singles_of, codes_of, three_samples_of, place_of, copied, sample_band_of, samples_from};
 
-use buffer::Reader;
+use buffer::{Reader, Taken};
 use samples::Three;
+use side::SideInfo;
 
-// Three codes of one place, and the reader after them.
-#[derive(Clone, Copy)]
-struct Codes {
-    codes: Three,
-    reader: Reader,
-}
-
-fn read_singles(reader: Reader, s: &[u8], bits: usize) -> Codes
-    ensures { taken result.codes result.reader ≡ run (singles_of bits) s.now reader }
+// Three codes of one place.
+fn read_singles(reader: Reader, s: &[u8], bits: usize) -> Taken<Three>
+    ensures { result ≡ run (singles_of bits) s.now reader }
 {
     let a = reader.field(s, bits);
-    let next = a.next;
-    let b = next.field(s, bits);
-    let after = b.next;
-    let c = after.field(s, bits);
-    let last = c.next;
-    Codes {
-        codes: Three {
+    let b = a.next.field(s, bits);
+    let c = b.next.field(s, bits);
+    Taken {
+        value: Three {
             first: a.value,
             second: b.value,
             third: c.value,
         },
-        reader: last,
+        next: c.next,
     }
 }
 
@@ -52,47 +44,34 @@ fn cut_in_three(value: u32, bits: usize) -> Three
 }
 
 // Where the codes are narrow and all there, one read takes the three of them.
-fn read_three(reader: Reader, s: &[u8], bits: usize) -> Codes
-    ensures { taken result.codes result.reader ≡ run (singles_of bits) s.now reader }
+fn read_three(reader: Reader, s: &[u8], bits: usize) -> Taken<Three>
+    ensures { result ≡ run (singles_of bits) s.now reader }
 {
     if bits <= 10 {
         let f = reader.field(s, 3 * bits);
         let next = f.next;
         if next.at.0 != reader.at.0 {
-            let codes = cut_in_three(f.value, bits);
-            return Codes {
-                codes,
-                reader: next,
-            };
+            let value = cut_in_three(f.value, bits);
+            return Taken { value, next };
         }
     }
     read_singles(reader, s, bits)
 }
 
-fn read_codes(reader: Reader, s: &[u8], q: usize) -> Codes
+fn read_codes(reader: Reader, s: &[u8], q: usize) -> Taken<Three>
     requires { q < 18 }
-    ensures { taken result.codes result.reader ≡ run (codes_of q) s.now reader }
+    ensures { result ≡ run (codes_of q) s.now reader }
 {
     let bits = tables::code_bits(q);
     if tables::grouped(q) {
         let f = reader.field(s, bits);
-        let next = f.next;
-        let codes = samples::digits(tables::levels(q), f.value);
-        return Codes {
-            codes,
-            reader: next,
+        let value = samples::digits(tables::levels(q), f.value);
+        return Taken {
+            value,
+            next: f.next,
         };
     }
     read_three(reader, s, bits)
-}
-
-fn store_samples(sample: &mut [i32; 192], place: usize, x: i32, y: i32, z: i32)
-    requires { place < 64 }
-    ensures { sample.new ≡ three place x y z sample.old }
-{
-    sample[place] = x;
-    sample[place + 64] = y;
-    sample[place + 128] = z;
 }
 
 fn read_samples(
@@ -107,36 +86,33 @@ fn read_samples(
     ensures { taken sample.new result ≡ run (three_samples_of q factor place sample.old) s.now reader }
 {
     let c = read_codes(reader, s, q);
-    let codes = c.codes;
-    let next = c.reader;
+    let codes = c.value;
     let adj = samples::adj(q);
     let scale = samples::scale(q);
     let x = samples::sample(adj, scale, codes.first, factor);
     let y = samples::sample(adj, scale, codes.second, factor);
     let z = samples::sample(adj, scale, codes.third, factor);
-    store_samples(sample, place, x, y, z);
-    next
+    side::store_three(sample, place, x, y, z);
+    c.next
 }
 
 fn read_place(
     reader: Reader,
     s: &[u8],
-    quant: &[u8; 64],
-    factor: &[u32; 192],
+    side: &SideInfo,
     part: usize,
     place: usize,
     sample: &mut [i32; 192],
 ) -> Reader
-    requires { (part < 3) × (place < 64) × Below 18 quant.now × Below 33554433 factor.now }
-    ensures { taken sample.new result
-        ≡ run (place_of (side_with quant.now factor.now) part place sample.old) s.now reader }
+    requires { (part < 3) × (place < 64) }
+    ensures { taken sample.new result ≡ run (place_of (side_in side.now) part place sample.old) s.now reader }
 {
-    let q = quant[place] as usize;
+    let q = side.quant[place] as usize;
     if q == 0 {
         return reader;
     }
     let at = part * 64 + place;
-    read_samples(reader, s, q, factor[at], place, sample)
+    read_samples(reader, s, q, side.factor[at], place, sample)
 }
 
 // The right channel takes the left's finished samples.
@@ -147,26 +123,24 @@ fn copy_band(sample: &mut [i32; 192], sb: usize)
     let x = sample[sb];
     let y = sample[sb + 64];
     let z = sample[sb + 128];
-    store_samples(sample, sb + 32, x, y, z);
+    side::store_three(sample, sb + 32, x, y, z);
 }
 
 fn sample_band(
     reader: Reader,
     s: &[u8],
-    quant: &[u8; 64],
-    factor: &[u32; 192],
+    side: &SideInfo,
     part: usize,
-    bound: usize,
     sb: usize,
     sample: &mut [i32; 192],
 ) -> Reader
-    requires { (part < 3) × (sb < 32) × Below 18 quant.now × Below 33554433 factor.now }
+    requires { (part < 3) × (sb < 32) }
     ensures { taken sample.new result
-        ≡ run (sample_band_of (side_with quant.now factor.now) part bound sb sample.old) s.now reader }
+        ≡ run (sample_band_of (side_in side.now) part side.now.layout.bound sb sample.old) s.now reader }
 {
-    let left = read_place(reader, s, quant, factor, part, sb, sample);
-    if sb < bound {
-        return read_place(left, s, quant, factor, part, sb + 32, sample);
+    let left = read_place(reader, s, side, part, sb, sample);
+    if sb < side.layout.bound {
+        return read_place(left, s, side, part, sb + 32, sample);
     }
     copy_band(sample, sb);
     left
@@ -176,22 +150,18 @@ fn sample_band(
 pub fn read_granule(
     reader: Reader,
     s: &[u8],
-    quant: &[u8; 64],
-    factor: &[u32; 192],
+    side: &SideInfo,
     part: usize,
-    bound: usize,
-    limit: usize,
     sample: &mut [i32; 192],
 ) -> Reader
-    requires { (part < 3) × (limit ≤ 32) × Below 18 quant.now × Below 33554433 factor.now }
-    ensures { taken sample.new result
-        ≡ run (samples_from (side_with quant.now factor.now) part bound limit sample.old) s.now reader }
+    requires { part < 3 }
+    ensures { let layout = side.now.layout in
+        taken sample.new result
+        ≡ run (samples_from (side_in side.now) part layout.bound layout.limit sample.old) s.now reader }
 {
     let mut next = reader;
-    let mut sb = 0;
-    while sb < limit {
-        next = sample_band(next, s, quant, factor, part, bound, sb, sample);
-        sb += 1;
+    for sb in 0..side.layout.limit {
+        next = sample_band(next, s, side, part, sb, sample);
     }
     next
 }

@@ -3,7 +3,8 @@
 use Rattle.std.specs.Prelude.{ℕ, ◌*◌, ◌/◌, ◌≤◌, ◌≡◌, List, ℤ, Float, length}
 use Rattle.buffer.specs.declared.Reader.{Reader}
 use Rattle.grammar.specs.Reads.{Taken, run}
-use Rattle.side.specs.Below.{Below, side_with}
+use Rattle.side.specs.Info.{side_in}
+use Rattle.side.specs.declared.info.SideInfo.{SideInfo}
 use Rattle.codes.specs.Frame.{granule_of, granules_of}
 use Rattle.window.specs.Window.{window_list}
 use Rattle.window.specs.Output.{Place}
@@ -11,23 +12,20 @@ use Rattle.synthesis.specs.Slots.{memory_length, output_length, slot_samples, po
 use Rattle.frame.specs.Frame.{frame_memory, frame_output}
 use Rattle.frame.specs.declared.Sounded.{Sounded}
 
--- 18 quantisers, scale factors of at most 2^25, a ring position, the window, and slices that are long enough
-pub record GranulesLent (quant factor : List ℕ) (limit ring : ℕ) (window memory output : List Float) : Type 0 where
-  pub limited : limit ≤ 32
-  pub quantisers : Below 18 quant
-  pub factors : Below 33554433 factor
+-- a ring position, the window, and slices that are long enough
+pub record GranulesLent (ring : ℕ) (window memory output : List Float) : Type 0 where
   pub place : Place ring
   pub window_is : window ≡ window_list
   pub memory_long : memory_length ≤ length memory
   pub output_long : output_length ≤ length output
 
 -- the codes of granule g, "four to each scale-factor part", and of all twelve
-module _ (s : List ℕ) (r : Reader) (quant factor : List ℕ) (bound limit : ℕ) where
+module _ (s : List ℕ) (r : Reader) (side : SideInfo) where
   abbrev pub one_granule : ℕ → Taken (List ℤ)
-  one_granule g = run (granule_of (side_with quant factor) (g / 4) bound limit) s r
+  one_granule g = run (granule_of (side_in side) (g / 4) side.layout.bound side.layout.limit) s r
 
   abbrev pub twelve_granules : Taken (List (List ℤ))
-  twelve_granules = run (granules_of (side_with quant factor) bound limit 12) s r
+  twelve_granules = run (granules_of (side_in side) side.layout.bound side.layout.limit 12) s r
 
 -- the three slots of granule g, from ring position p
 pub record GranuleSounds (x : Taken (List ℤ)) (g p : ℕ) (memory output : List Float) (r : Sounded) (memory' output' : List Float) : Type 0 where

@@ -1,16 +1,18 @@
 // A frame whose header is accepted: audio.rs's `decode_frame`, from the first allocation bit to the last sample.
 #![tactic(auto)]
 
-ghost use Rattle.std.specs.Prelude.{◌≡◌, ◌≤◌, ◌<◌, length};
+ghost use Rattle.std.specs.Prelude.{◌≡◌, ◌≤◌, ◌<◌, eqb, length};
 ghost use Rattle.window.specs.Output.{Place};
 ghost use Rattle.synthesis.specs.Slots.{memory_length, output_length};
-ghost use Rattle.frame.specs.Frame.{Fit, cut_format, granules_at};
+ghost use Rattle.tables.specs.Differences.{table_of};
+ghost use Rattle.side.specs.Side.{cut_of};
+ghost use Rattle.frame.specs.Frame.{Fit, limit_in, cut_format, granules_at};
 ghost use Rattle.frame.specs.Sounds.{GranulesLent, one_granule, GranuleSounds, twelve_granules, FrameSounds};
 
 use buffer::Reader;
 use header::Format;
-
-const MODE_MONO: u32 = 3;
+use readings::MODE_MONO;
+use side::{Layout, SideInfo};
 
 // The reader after the codes so far, and the ring position after their slots.
 #[derive(Clone, Copy)]
@@ -24,14 +26,28 @@ pub fn cut_format(f: Format) -> Format
     requires { Fit f }
     ensures { result ≡ cut_format f }
 {
-    let reading = f.reading;
     let limit = tables::limit(f.mode, f.bitrate, f.samplerate);
     Format {
-        reading,
-        samplerate: f.samplerate,
-        bitrate: f.bitrate,
-        mode: f.mode,
         bound: side::cut(f.bound, limit),
+        ..f
+    }
+}
+
+// How the fields of a frame of this format are laid out.
+fn lay_out(f: Format) -> Layout
+    requires { Fit f }
+    ensures mono { result.mono ≡ eqb f.mode 3 }
+    ensures table { result.table ≡ table_of f.mode f.bitrate f.samplerate }
+    ensures bound { result.bound ≡ cut_of f.bound (limit_in f) }
+    ensures limit { result.limit ≡ limit_in f }
+{
+    let limit = tables::limit(f.mode, f.bitrate, f.samplerate);
+    let bound = side::cut(f.bound, limit);
+    Layout {
+        mono: f.mode == MODE_MONO,
+        table: tables::allocation_table(f.mode, f.bitrate, f.samplerate),
+        bound,
+        limit,
     }
 }
 
@@ -39,30 +55,18 @@ pub fn cut_format(f: Format) -> Format
 fn granule(
     s: &[u8],
     start: Sounded,
-    quant: &[u8; 64],
-    factor: &[u32; 192],
-    bound: usize,
-    limit: usize,
+    side: &SideInfo,
     g: usize,
     window: &[f32; 512],
     memory: &mut [f32],
     output: &mut [f32],
 ) -> Sounded
-    requires { (g < 12) × GranulesLent quant.now factor.now limit start.ring window.now memory.old output.old }
-    ensures { let x = one_granule s.now start.end quant.now factor.now bound limit g in
+    requires { (g < 12) × GranulesLent start.ring window.now memory.old output.old }
+    ensures { let x = one_granule s.now start.end side.now g in
         GranuleSounds x g start.ring memory.old output.old result memory.new output.new }
 {
     let mut sample = [0i32; 192];
-    let end = codes::read_granule(
-        start.end,
-        s,
-        quant,
-        factor,
-        g / 4,
-        bound,
-        limit,
-        &mut sample,
-    );
+    let end = codes::read_granule(start.end, s, side, g / 4, &mut sample);
     let ring = synthesis::synthesize(memory, start.ring, &sample, window, output, 192 * g);
     Sounded { end, ring }
 }
@@ -71,25 +75,18 @@ fn granule(
 fn granules(
     s: &[u8],
     start: Sounded,
-    quant: &[u8; 64],
-    factor: &[u32; 192],
-    bound: usize,
-    limit: usize,
+    side: &SideInfo,
     window: &[f32; 512],
     memory: &mut [f32],
     output: &mut [f32],
 ) -> Sounded
-    requires { GranulesLent quant.now factor.now limit start.ring window.now memory.old output.old }
-    ensures { let x = twelve_granules s.now start.end quant.now factor.now bound limit in
+    requires { GranulesLent start.ring window.now memory.old output.old }
+    ensures { let x = twelve_granules s.now start.end side.now in
         FrameSounds x start.ring memory.old output.old result memory.new output.new }
 {
     let mut at = start;
-    let mut g = 0;
-    while g < 12 {
-        at = granule(
-            s, at, quant, factor, bound, limit, g, window, memory, output,
-        );
-        g += 1;
+    for g in 0..12 {
+        at = granule(s, at, side, g, window, memory, output);
     }
     at
 }
@@ -107,23 +104,11 @@ pub fn decode_frame(
     ensures { let x = granules_at s.now reader f in
         FrameSounds x ring memory.old output.old result memory.new output.new }
 {
-    let limit = tables::limit(f.mode, f.bitrate, f.samplerate);
-    let table = tables::allocation_table(f.mode, f.bitrate, f.samplerate);
-    let bound = side::cut(f.bound, limit);
-    let side = side::read_side(reader, s, f.mode == MODE_MONO, table, bound, limit);
-    let quant = side.quant;
-    let factor = side.factor;
-    let end = side.reader;
+    let side = side::read_side(reader, s, lay_out(f));
     let window = window::synthesis_window();
-    granules(
-        s,
-        Sounded { end, ring },
-        &quant,
-        &factor,
-        bound,
-        limit,
-        &window,
-        memory,
-        output,
-    )
+    let start = Sounded {
+        end: side.next,
+        ring,
+    };
+    granules(s, start, &side.value, &window, memory, output)
 }

@@ -17,6 +17,7 @@ ghost use Rattle.window.specs.Output.{Place};
 ghost use Rattle.synthesis.specs.Slots.{slot_samples, position_after, memory_after, output_after};
 
 use buffer::{BitIndex, Reader};
+use side::{Layout, SideInfo};
 
 // The limit of subbands, the allocation table, and the bound cut to the limit.
 #[unsafe(no_mangle)]
@@ -56,12 +57,19 @@ pub extern "C" fn probe_side(
         taken side (reader_at result) ≡ run (side_of mono table bound limit) stream.now (reader_at at) }
 {
     let reader = Reader { at: BitIndex(at) };
-    let read = side::read_side(reader, stream, mono, table, bound, limit);
-    let quantisers = read.quant;
-    let factors = read.factor;
+    let layout = Layout {
+        mono,
+        table,
+        bound,
+        limit,
+    };
+    let read = side::read_side(reader, stream, layout);
+    let side = read.value;
+    let quantisers = side.quant;
+    let factors = side.factor;
     *quant = quantisers;
     *factor = factors;
-    read.reader.at.0
+    read.next.at.0
 }
 
 // The samples of a granule in that part of the frame, from bit `at`. The bit after its codes is returned.
@@ -82,7 +90,19 @@ pub extern "C" fn probe_granule(
         taken sample.new (reader_at result) ≡ run samples stream.now (reader_at at) }
 {
     let reader = Reader { at: BitIndex(at) };
-    let next = codes::read_granule(reader, stream, quant, factor, part, bound, limit, sample);
+    // A granule goes by the bound and the limit alone.
+    let layout = Layout {
+        mono: false,
+        table: 0,
+        bound,
+        limit,
+    };
+    let side = SideInfo {
+        layout,
+        quant: *quant,
+        factor: *factor,
+    };
+    let next = codes::read_granule(reader, stream, &side, part, sample);
     next.at.0
 }
 

@@ -12,12 +12,10 @@ pub extern "C" fn probe_read_run(stream: &[u8], at: usize, width: usize, times: 
 {
     let mut reader = Reader { at: BitIndex(at) };
     let mut sum: u64 = 0;
-    let mut i = 0;
-    while i < times {
+    for _turn in 0..times {
         let f = reader.field(stream, width);
         sum = std::num::wrapping_add_u64(sum, f.value as u64);
         reader = f.next;
-        i += 1;
     }
     sum
 }

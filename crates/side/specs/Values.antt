@@ -12,9 +12,10 @@ use Rattle.tables.specs.Laws.{quantiser<18}
 use Rattle.samples.specs.Sample.{factor_of}
 use Rattle.samples.specs.Bounds.{factor_small}
 use Rattle.side.specs.Below.{Below}
+pub use Rattle.side.specs.Below.{SideInRange}
 use Rattle.ground.specs.Stores.{three}
 use Rattle.side.specs.Bands.{bands, pair_of, channels_of, allocated_of}
-use Rattle.side.specs.Side.{allocation_of, allocation_band_of, selectors_of, factors_of, place_factors_of, Side, side_of}
+use Rattle.side.specs.Side.{allocation_of, allocation_band_of, selectors_of, factors_of, place_factors_of, side_of}
 
 -- what each subband keeps, all of them keep
 module _ {A : Type 0} (P : A → Type 0) where
@@ -75,10 +76,6 @@ factors_below (suc (suc zero)) place xs p = λ a ha. three_below _ xs place _ _ 
 factors_below (suc (suc (suc n))) place xs p = λ a ha b hb. three_below _ xs place _ _ _ p (factor< a ha) (factor< b hb) (factor< b hb)
 
 -- the side information
-pub record SideInRange (side : Side) : Type 0 where
-  pub quant : Below 18 side.quant
-  pub factor : Below 33554433 side.factor
-
 pub side_ranged : (mono : Bool) (table bound limit : ℕ) → Always SideInRange (side_of mono table bound limit)
 unfolding side_of Always
 side_ranged mono table bound limit =

@@ -1,7 +1,7 @@
 -- `codes::copy_band` meets its contract.
 use mathlib.Core.Path.{◌≡◌}
 use Prim.Native.Nat.{◌<◌, ◌^◌, ◌+◌}
-use borrow.Author.Rules.{sfits_of}
+use borrow.Author.Rules.{rules, sfits_of}
 use lib.IntN.{ℤ, pos}
 use lib.ListN.{get_or}
 use lib.Signed.{mag}
@@ -20,6 +20,9 @@ unfolding copied
 returns c =
     let a = c.args in
     let at = a.sample.now in
-    simp
-    (kept (get_or at a.sb (pos 0)) c.x-1.given, kept (get_or at (a.sb + 64) (pos 0)) c.y-1.given, kept (get_or at (a.sb + 128) (pos 0)) c.z-1.given)
-    at c.store_samples.ensures
+    simp (
+      kept (get_or at a.sb (pos 0)) (search rules),
+      kept (get_or at (a.sb + 64) (pos 0)) (search rules),
+      kept (get_or at (a.sb + 128) (pos 0)) (search rules),
+    )
+    at c.store_three.ensures

@@ -8,8 +8,8 @@ use Rattle.codes.specs.Frame.{codes_of}
 use Rattle.codes.proofs.Quantisers.{grouped_levels}
 use Rattle.codes.proofs.read_codes.Goals as goal
 
-pub digits-codes-requires : goal.digits-codes-requires
-digits-codes-requires c =
+pub digits-value-requires : goal.digits-value-requires
+digits-value-requires c =
     rw c.levels.ensures (grouped_levels c.args.q c.requires (sym c.grouped.ensures ∙ c.if-grouped.true))
 
 pub returns-then-grouped : goal.returns-then-grouped
@@ -18,7 +18,7 @@ returns-then-grouped c =
     let a = c.args in
     simp (sym c.grouped.ensures ∙ c.if-grouped.true)
     (field_then _ _ _ _ (c.field-f.ensures.is ∙ ap (field_of a.s.now a.reader) c.code_bits-bits.ensures)
-    (ap (λ d. taken d c.field-f.result.next) (c.digits-codes.ensures ∙ ap (λ l. digits_of l c.field-f.result.value) c.levels.ensures)
+    (ap (λ d. taken d c.field-f.result.next) (c.digits-value.ensures ∙ ap (λ l. digits_of l c.field-f.result.value) c.levels.ensures)
     ∙ sym (run_done _ _ _)))
 
 pub returns : goal.returns

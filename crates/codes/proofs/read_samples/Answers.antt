@@ -33,10 +33,10 @@ returns c =
     let a = c.args in
     and_then _ _ _ _ c.read_codes-c.ensures
     (simp run_done
-    (stored a.q a.factor a.place a.sample.now _ c.read_codes-c.result.codes c.adj-adj.ensures c.scale-scale.ensures
+    (stored a.q a.factor a.place a.sample.now _ c.read_codes-c.result.value c.adj-adj.ensures c.scale-scale.ensures
     c.sample-x.ensures.value c.sample-y.ensures.value c.sample-z.ensures.value
     (simp (
       read_back c.sample-x.result c.sample-x.ensures.small tt,
       read_back c.sample-y.result c.sample-y.ensures.small tt,
       read_back c.sample-z.result c.sample-z.ensures.small tt,
-    ) at c.store_samples.ensures)))
+    ) at c.store_three.ensures)))

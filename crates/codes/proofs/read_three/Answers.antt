@@ -8,5 +8,5 @@ pub returns-then-next-reader : goal.returns-then-next-reader
 returns-then-next-reader c =
     let a = c.args in
     let f = c.field-f in
-    ap (λ k. taken k f.result.next) c.cut_in_three-codes.ensures
+    ap (λ k. taken k f.result.next) c.cut_in_three-value.ensures
     ∙ at_once a.s.now a.reader a.bits f.result f.ensures.is c.if-bits-le10.true c.if-next-reader.true

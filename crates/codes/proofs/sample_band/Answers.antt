@@ -7,15 +7,15 @@ use mathlib.Core.Path.{ap}
 use Rattle.grammar.specs.Reads.{taken}
 use Rattle.codes.proofs.sample_band.Goals as goal
 
-pub returns-then-sb-bound : goal.returns-then-sb-bound
+pub returns-then-sb-side : goal.returns-then-sb-side
 unfolding sample_band_of pair_of
-returns-then-sb-bound c =
+returns-then-sb-side c =
     and_then _ _ _ _ c.read_place-left.ensures
-    (simp (lt-ltb _ _ c.if-sb-bound.true) c.read_place.ensures)
+    (simp (lt-ltb _ _ c.if-sb-side.true) c.read_place.ensures)
 
 pub returns : goal.returns
 unfolding sample_band_of pair_of
 returns c =
     and_then _ _ _ _ c.read_place-left.ensures
-    (simp (le-ltb _ _ c.if-sb-bound.false, run_done)
+    (simp (le-ltb _ _ c.if-sb-side.false, run_done)
     (ap (λ xs. taken xs c.read_place-left.result) c.copy_band.ensures))

@@ -8,7 +8,7 @@ use Rattle.frame.proofs.Twelve.{after_none, after_more}
 use Rattle.frame.proofs.granules.Goals as goal
 
 pub loop-g-init : goal.loop-g-init
-loop-g-init c = (omega arith, refl, refl, after_none _ _ _ _ _ _ _ _)
+loop-g-init c = (refl, refl, after_none _ _ _ _ _ _ _ _)
 
 pub granule-at-requires : goal.granule-at-requires
 granule-at-requires c =
@@ -16,10 +16,7 @@ granule-at-requires c =
     let lent = c.requires in (
       omega arith,
       record {
-        limited = lent.limited;
-        quantisers = lent.quantisers;
-        factors = lent.factors;
-        place = rw l.invariant.3.place (place_after lent.place (3 * l.g));
+        place = rw l.invariant.2.place (place_after lent.place (3 * l.g));
         window_is = lent.window_is;
         memory_long = omega (arith, lent.memory_long);
         output_long = omega (arith, lent.output_long);
@@ -32,8 +29,7 @@ loop-g-preserved c =
     let e = c.granule-at.ensures in (
       search rules,
       search rules,
-      search rules,
-      after_more _ _ _ _ _ _ _ _ lent.place lent.memory_long _ _ _ _ _ c.loop-g.invariant.3 _ _ _ _
+      after_more _ _ _ _ _ _ _ _ lent.place lent.memory_long _ _ _ _ _ c.loop-g.invariant.2 _ _ _ _
           e.end_is e.ring_is e.memory_is e.output_is,
     )
 
@@ -42,5 +38,5 @@ unfolding frame_memory frame_output
 returns c =
     let l = c.loop-g in
     let done : l.g ≡ 12 = omega arith in
-    let a = rw done at l.invariant.3 in
+    let a = rw done at l.invariant.2 in
     record { end_is = a.read; ring_is = a.place; memory_is = a.kept; output_is = a.given }

@@ -3,25 +3,14 @@ use borrow.Author.Tests.{lt-ltb, le-ltb}
 use Rattle.grammar.specs.Run.{run_done, and_then}
 use Rattle.side.specs.Bands.{pair_of}
 use Rattle.side.specs.Side.{allocation_band_of}
-use native.Mathlib.Omega.{arith}
 use Rattle.side.proofs.allocation_band.Goals as goal
 
-pub read_allocation-left-requires : goal.read_allocation-left-requires
-read_allocation-left-requires c =
-    let p = c.requires in
-    (p.0, p.1, p.2, omega (arith, p.2))
-
-pub read_allocation-requires : goal.read_allocation-requires
-read_allocation-requires c =
-    let p = c.requires in
-    (p.0, p.1, p.2, omega (arith, p.2))
-
-pub returns-then-sb-bound : goal.returns-then-sb-bound
+pub returns-then-sb-layout : goal.returns-then-sb-layout
 unfolding allocation_band_of pair_of
-returns-then-sb-bound c =
+returns-then-sb-layout c =
     and_then _ _ _ _ c.read_allocation-left.ensures
-    (simp (lt-ltb _ _ c.if-sb-bound.true) c.read_allocation.ensures)
+    (simp (lt-ltb _ _ c.if-sb-layout.true) c.read_allocation.ensures)
 
 pub returns : goal.returns
 unfolding allocation_band_of pair_of
-returns c = and_then _ _ _ _ c.read_allocation-left.ensures (simp (le-ltb _ _ c.if-sb-bound.false, run_done))
+returns c = and_then _ _ _ _ c.read_allocation-left.ensures (simp (le-ltb _ _ c.if-sb-layout.false, run_done))

@@ -1,18 +1,15 @@
-use Rattle.std.proofs.Common.{ap, ◌∙◌, add-one, arith, rules}
+use Rattle.std.proofs.Common.{add-one, refl}
 use Rattle.probe.specs.Runs.{reader_after, run_sum}
 use Rattle.probe.proofs.runs.probe_read_run.Goals as goal
 
-pub loop-i-init : goal.loop-i-init
+pub loop-turn-init : goal.loop-turn-init
 unfolding reader_after run_sum
-loop-i-init c = search rules
+loop-turn-init c = (refl, refl)
 
-pub loop-i-preserved : goal.loop-i-preserved
+pub loop-turn-preserved : goal.loop-turn-preserved
 unfolding reader_after run_sum
-loop-i-preserved c =
-    let l = c.loop-i in
+loop-turn-preserved c =
+    let l = c.loop-turn in
     let f = c.field-f in
     let added = c.wrapping_add_u64-sum.ensures.value in
-    (search rules, simp add-one (cc (f.ensures.is, l.invariant.1)), simp add-one (cc (f.ensures.is, l.invariant.1, l.invariant.2, added)))
-
-pub returns : goal.returns
-returns c = c.loop-i.invariant.2 ∙ ap (run_sum _ _ _) (omega arith)
+    (simp add-one (cc (f.ensures.is, l.invariant.0)), simp add-one (cc (f.ensures.is, l.invariant.0, l.invariant.1, added)))
