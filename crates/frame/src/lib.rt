@@ -11,7 +11,6 @@ ghost use Rattle.frame.specs.Sounds.{GranulesLent, one_granule, GranuleSounds, t
 
 use buffer::Reader;
 use header::Format;
-use readings::MODE_MONO;
 use side::{Layout, SideInfo};
 
 // The reader after the codes so far, and the ring position after their slots.
@@ -44,7 +43,7 @@ fn lay_out(f: Format) -> Layout
     let limit = tables::limit(f.mode, f.bitrate, f.samplerate);
     let bound = side::cut(f.bound, limit);
     Layout {
-        mono: f.mode == MODE_MONO,
+        mono: f.mode == tables::MODE_MONO,
         table: tables::allocation_table(f.mode, f.bitrate, f.samplerate),
         bound,
         limit,
