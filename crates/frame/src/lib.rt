@@ -12,6 +12,7 @@ ghost use Rattle.frame.specs.Sounds.{GranulesLent, one_granule, GranuleSounds, t
 use buffer::Reader;
 use header::Format;
 use side::{Layout, SideInfo};
+use tables::MODE_MONO;
 
 // The reader after the codes so far, and the ring position after their slots.
 #[derive(Clone, Copy)]
