@@ -63,6 +63,7 @@ pub fn factor(index: u32) -> u32
     (base(index % 3) + ((1u32 << shift) >> 1u32)) >> shift
 }
 
+#[tactic(auto, using(tables::specs::Laws::sized), unfolding(crate::specs::Sample::adj_of))]
 pub fn adj(q: usize) -> u32
     requires { (0 < q) × (q < 18) }
     ensures { result ≡ adj_of (levels_of q) }
@@ -71,6 +72,7 @@ pub fn adj(q: usize) -> u32
 }
 
 // 65536 div (levels + 1), by shifts where the levels and 1 are a power of 2.
+#[tactic(auto, unfolding(crate::specs::Sample::scale_of, tables::specs::Standard::levels_of, tables::specs::Standard::quantisation_of, tables::specs::Standard::classes))]
 pub fn scale(q: usize) -> u32
     requires { (0 < q) × (q < 18) }
     ensures { result ≡ scale_of (levels_of q) }
