@@ -44,7 +44,7 @@ fn lay_out(f: Format) -> Layout
     let limit = tables::limit(f.mode, f.bitrate, f.samplerate);
     let bound = side::cut(f.bound, limit);
     Layout {
-        mono: f.mode == tables::MODE_MONO,
+        mono: f.mode == MODE_MONO,
         table: tables::allocation_table(f.mode, f.bitrate, f.samplerate),
         bound,
         limit,
