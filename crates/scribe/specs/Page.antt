@@ -58,6 +58,9 @@ puts_both {p = p} {q = q} first second =
       bytes = omega (arith, second.bytes, first.bytes, length-append p q);
     }
 
+-- the four, for a search
+pub ruleset pieces = (next_first, next_behind, puts_nothing, puts_both)
+
 -- ---- and a whole text, from its beginning to its end
 
 module _ {w : Whole} {s : List ℕ} {page : Page} where

@@ -1,4 +1,3 @@
 pub mod Prime
 pub mod Patterns
 pub mod Digits
-pub mod Pieces
