@@ -17,7 +17,8 @@ use Rattle.listing.specs.declared.Listed.{Listed}
 use Rattle.listing.specs.declared.Line.TheVariants.{Long}
 use Rattle.listing.specs.Lines.{Shown, is_last, next_of, shown_from, opening_shown, carried_by, called_of, shown_of}
 use Rattle.listing.specs.Text.{text_by, texts_of, listing_of}
-use Rattle.scribe.specs.Page.{IsNext, IsWritten, Puts, Leaves, left_next, left_behind, none_left}
+use Rattle.scribe.specs.Page.{IsNext, IsWritten, Puts, Leaves}
+use Rattle.scribe.specs.PageLaws.{left_next, left_behind, none_left}
 use Rattle.scribe.specs.declared.Page.{Page}
 use Rattle.scribe.specs.declared.Whole.{Whole}
 

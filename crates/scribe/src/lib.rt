@@ -18,11 +18,10 @@ pub enum Whole {
     Wave,
 }
 
-// The two streams that are written to, with the system's numbers of them.
-#[derive(Clone, Copy)]
+// The two streams that are written to; specs/Whole has the system's numbers of them.
 enum Descriptor {
-    Output = 1,
-    Error = 2,
+    Output,
+    Error,
 }
 
 impl Whole {
@@ -38,8 +37,9 @@ impl Whole {
     }
 }
 
-// A text of a stream, how much of it is written, and where it goes. The fields are this crate's alone: what is counted comes from `new` and
-// `put`, and from nowhere else. There is one page of a text, since it is not copied. After a write that failed nothing more is written.
+// A text of a stream, how much of it is written, and where it goes. The fields are this crate's alone: a count comes from `new` and `put`, and
+// from nowhere else. A page is not copied, so no count is kept and used again; and it is not dropped, so that whoever has written asks
+// `finish` whether a write failed. After a write that failed nothing more is written.
 pub struct Page<'a> {
     stream: &'a [u8],
     what: Whole,

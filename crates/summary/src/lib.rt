@@ -11,7 +11,7 @@ use scribe::{Page, Whole};
 use tally::Kept;
 
 // "1 frame", "2 frames".
-#[tactic(auto, using(scribe::specs::Page::pieces), unfolding(listing::specs::Summary::counted_text))]
+#[tactic(auto, using(scribe::specs::PageLaws::pieces), unfolding(listing::specs::Summary::counted_text))]
 fn put_counted(page: &mut Page, word: &[u8], n: u64, things: &[u8])
     requires { IsNext page.old (counted_text word.now n things.now) }
     ensures { Puts page.old (counted_text word.now n things.now) page.new }
@@ -26,13 +26,12 @@ fn put_counted(page: &mut Page, word: &[u8], n: u64, things: &[u8])
 fn hundredths(frames: u32, rate: usize) -> u64
     ensures { result ≡ hundredths_of frames rate }
 {
-    if rate == 0 {
-        return 0;
-    }
-    (frames as u64 * 115200 + rate as u64 / 2) / rate as u64
+    (frames as u64 * 115200 + rate as u64 / 2)
+        .checked_div(rate as u64)
+        .unwrap_or(0)
 }
 
-#[tactic(auto, using(scribe::specs::Page::pieces), unfolding(listing::specs::Summary::seconds_text))]
+#[tactic(auto, using(scribe::specs::PageLaws::pieces), unfolding(listing::specs::Summary::seconds_text))]
 fn put_seconds(page: &mut Page, n: u64)
     requires { IsNext page.old (seconds_text n) }
     ensures { Puts page.old (seconds_text n) page.new }
@@ -43,7 +42,7 @@ fn put_seconds(page: &mut Page, n: u64)
     page.put(b" s");
 }
 
-#[tactic(auto, using(scribe::specs::Page::pieces), unfolding(listing::specs::Summary::frames_text))]
+#[tactic(auto, using(scribe::specs::PageLaws::pieces), unfolding(listing::specs::Summary::frames_text))]
 fn put_frames(page: &mut Page, frames: Kept)
     requires { IsNext page.old (frames_text frames.count frames.first) }
     ensures { Puts page.old (frames_text frames.count frames.first) page.new }
@@ -57,7 +56,7 @@ fn put_frames(page: &mut Page, frames: Kept)
 }
 
 // None is not told.
-#[tactic(auto, using(scribe::specs::Page::pieces), unfolding(listing::specs::Summary::junk_text))]
+#[tactic(auto, using(scribe::specs::PageLaws::pieces), unfolding(listing::specs::Summary::junk_text))]
 fn put_junk(page: &mut Page, bytes: usize)
     requires { IsNext page.old (junk_text bytes) }
     ensures { Puts page.old (junk_text bytes) page.new }
@@ -69,7 +68,7 @@ fn put_junk(page: &mut Page, bytes: usize)
 }
 
 // A number, and what it means.
-#[tactic(auto, using(scribe::specs::Page::pieces), unfolding(listing::specs::Summary::reason_text))]
+#[tactic(auto, using(scribe::specs::PageLaws::pieces), unfolding(listing::specs::Summary::reason_text))]
 fn put_reason(page: &mut Page, word: &[u8], number: u32)
     requires { IsNext page.old (reason_text word.now number) }
     ensures { Puts page.old (reason_text word.now number) page.new }
@@ -79,7 +78,7 @@ fn put_reason(page: &mut Page, word: &[u8], number: u32)
 }
 
 // A number that no call was refused with is not told.
-#[tactic(auto, using(scribe::specs::Page::pieces), unfolding(listing::specs::Summary::refusal_text))]
+#[tactic(auto, using(scribe::specs::PageLaws::pieces), unfolding(listing::specs::Summary::refusal_text))]
 fn put_refusal(page: &mut Page, number: u32, refused: Kept)
     requires { IsNext page.old (refusal_text number refused.count refused.first) }
     ensures { Puts page.old (refusal_text number refused.count refused.first) page.new }

@@ -42,7 +42,7 @@ fn put_at(page: &mut Page, at: BytePos)
 }
 
 // A number, a position, and the bytes that were passed over.
-#[tactic(auto, using(scribe::specs::Page::pieces), unfolding(listing::specs::Text::place_text))]
+#[tactic(auto, using(scribe::specs::PageLaws::pieces), unfolding(listing::specs::Text::place_text))]
 fn put_place(page: &mut Page, word: &[u8], number: u32, at: BytePos, skipped: usize)
     requires { IsNext page.old (place_text word.now number at skipped) }
     ensures { Puts page.old (place_text word.now number at skipped) page.new }
@@ -52,7 +52,7 @@ fn put_place(page: &mut Page, word: &[u8], number: u32, at: BytePos, skipped: us
     put_number(page, b" skipped ", skipped as u64);
 }
 
-#[tactic(auto, using(scribe::specs::Page::pieces), unfolding(listing::specs::Text::format_text))]
+#[tactic(auto, using(scribe::specs::PageLaws::pieces), unfolding(listing::specs::Text::format_text))]
 fn put_format(page: &mut Page, rate: u32, kbps: u32, mode: u32, bits: usize)
     requires { IsNext page.old (format_text rate kbps mode bits) }
     ensures { Puts page.old (format_text rate kbps mode bits) page.new }
@@ -67,10 +67,7 @@ fn put_format(page: &mut Page, rate: u32, kbps: u32, mode: u32, bits: usize)
 pub fn time_bits(time: f64) -> u64
     ensures { result ≡ time_bits time }
 {
-    if time != time {
-        return 0;
-    }
-    f64::to_bits(time)
+    if time.is_nan() { 0 } else { time.to_bits() }
 }
 
 // A frame's marks; no other line has any.
@@ -129,7 +126,7 @@ fn meaning(line: Line) -> &'static [u8]
 }
 
 // Words in brackets.
-#[tactic(auto, using(scribe::specs::Page::pieces), unfolding(listing::specs::Text::bracketed))]
+#[tactic(auto, using(scribe::specs::PageLaws::pieces), unfolding(listing::specs::Text::bracketed))]
 pub fn put_bracketed(page: &mut Page, words: &[u8])
     requires { IsNext page.old (bracketed words.now) }
     ensures { Puts page.old (bracketed words.now) page.new }
@@ -152,7 +149,7 @@ fn put_behind(page: &mut Page, behind: Behind, line: Line, samples: &[f32])
 }
 
 // A line as 01 and E2 have it, up to its newline.
-#[tactic(auto, using(scribe::specs::Page::pieces), unfolding(listing::specs::Text::frame_text))]
+#[tactic(auto, using(scribe::specs::PageLaws::pieces), unfolding(listing::specs::Text::frame_text))]
 fn put_bare(page: &mut Page, line: Line)
     requires { IsNext page.old (bare_text line) }
     ensures { Puts page.old (bare_text line) page.new }
@@ -187,7 +184,7 @@ fn put_bare(page: &mut Page, line: Line)
     }
 }
 
-#[tactic(auto, using(scribe::specs::Page::pieces))]
+#[tactic(auto, using(scribe::specs::PageLaws::pieces))]
 pub fn put_line(page: &mut Page, behind: Behind, line: Line, samples: &[f32])
     requires { IsNext page.old (text_by behind line samples.now) }
     ensures { Puts page.old (text_by behind line samples.now) page.new }

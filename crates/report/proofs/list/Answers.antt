@@ -5,7 +5,7 @@ use Rattle.std.proofs.Math.Nat.{sub-zero}
 use native.Mathlib.Omega.{arith}
 use lib.Ieee.{of_bits}
 use Rattle.listing.specs.LinesLaws.{opening_carries_few}
-use Rattle.scribe.specs.Page.{all_left, left_next, left_behind}
+use Rattle.scribe.specs.PageLaws.{all_left, left_next, left_behind}
 use Rattle.report.proofs.Turns.{begins, line_next, no_calls, after_last, after_other}
 use Rattle.report.proofs.list.Goals as goal
 

@@ -10,7 +10,8 @@ use Rattle.listing.specs.declared.Behind.{Behind}
 use Rattle.listing.specs.declared.Line.TheVariants.{Refused as RefusedLine}
 use Rattle.listing.specs.Lines.{byte_position, opening_told, opening_shown}
 use Rattle.listing.specs.Text.{text_by, texts_of}
-use Rattle.scribe.specs.Page.{IsNext, Puts, puts_nothing}
+use Rattle.scribe.specs.Page.{IsNext, Puts}
+use Rattle.scribe.specs.PageLaws.{puts_nothing}
 use Rattle.report.proofs.put_opening.Goals as goal
 
 module _ (behind : Behind) (k : ℕ) (answer : Heading) (a : Audio) where

@@ -2,7 +2,7 @@ use mathlib.Core.List.{[]}
 use native.Mathlib.Omega.{arith}
 use Rattle.listing.specs.Text.{text_by}
 use Rattle.listing.specs.declared.Line.TheVariants.{Long}
-use Rattle.scribe.specs.Page.{all_left, left_next, left_behind, none_left}
+use Rattle.scribe.specs.PageLaws.{all_left, left_next, left_behind, none_left}
 use Rattle.report.proofs.Turns.{one_line}
 use Rattle.report.proofs.whole.Goals as goal
 

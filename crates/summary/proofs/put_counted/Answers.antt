@@ -1,6 +1,6 @@
 use borrow.Author.Tests.{ne_eqb}
 use Rattle.listing.specs.Summary.{counted_text}
-use Rattle.scribe.specs.Page.{next_first, next_behind}
+use Rattle.scribe.specs.PageLaws.{next_first, next_behind}
 use Rattle.summary.proofs.put_counted.Goals as goal
 
 pub put-requires : goal.put-requires

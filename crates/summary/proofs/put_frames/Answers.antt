@@ -1,6 +1,6 @@
 use borrow.Author.Tests.{ne_eqb}
 use Rattle.listing.specs.Summary.{frames_text}
-use Rattle.scribe.specs.Page.{next_behind}
+use Rattle.scribe.specs.PageLaws.{next_behind}
 use Rattle.summary.proofs.put_frames.Goals as goal
 
 pub put_seconds-requires : goal.put_seconds-requires

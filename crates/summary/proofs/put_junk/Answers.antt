@@ -1,7 +1,7 @@
 use native.Mathlib.Omega.{arith}
 use borrow.Author.Tests.{ne_eqb}
 use Rattle.listing.specs.Summary.{junk_text}
-use Rattle.scribe.specs.Page.{next_behind}
+use Rattle.scribe.specs.PageLaws.{next_behind}
 use Rattle.summary.proofs.put_junk.Goals as goal
 
 pub put-requires : goal.put-requires

@@ -1,5 +1,5 @@
 use mathlib.Core.List.{[]}
-use Rattle.scribe.specs.Page.{all_left, left_next, left_behind, none_left}
+use Rattle.scribe.specs.PageLaws.{all_left, left_next, left_behind, none_left}
 use Rattle.summary.proofs.Parts.{summary_is}
 use Rattle.summary.proofs.put_lines.Goals as goal
 

@@ -1,5 +1,5 @@
 use Rattle.listing.specs.Summary.{reason_text}
-use Rattle.scribe.specs.Page.{next_behind}
+use Rattle.scribe.specs.PageLaws.{next_behind}
 use Rattle.summary.proofs.put_reason.Goals as goal
 
 pub put_bracketed-requires : goal.put_bracketed-requires

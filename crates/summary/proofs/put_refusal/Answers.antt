@@ -1,7 +1,7 @@
 use native.Mathlib.Omega.{arith}
 use borrow.Author.Tests.{ne_eqb}
 use Rattle.listing.specs.Summary.{refusal_text}
-use Rattle.scribe.specs.Page.{next_first, next_behind, puts_both}
+use Rattle.scribe.specs.PageLaws.{next_first, next_behind, puts_both}
 use Rattle.summary.proofs.put_refusal.Goals as goal
 
 pub put_reason-requires : goal.put_reason-requires

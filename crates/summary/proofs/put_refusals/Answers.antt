@@ -1,7 +1,7 @@
 use mathlib.Core.Path.{◌≡◌}
 use native.Mathlib.Omega.{arith}
 use Rattle.summary.specs.Refusals.{refusals_by}
-use Rattle.scribe.specs.Page.{next_first, next_behind, puts_both, puts_nothing}
+use Rattle.scribe.specs.PageLaws.{next_first, next_behind, puts_both, puts_nothing}
 use Rattle.summary.proofs.Parts.{around, one_more}
 use Rattle.summary.proofs.put_refusals.Goals as goal
 

@@ -1,5 +1,5 @@
 use Rattle.listing.specs.Summary.{seconds_text}
-use Rattle.scribe.specs.Page.{next_first, next_behind}
+use Rattle.scribe.specs.PageLaws.{next_first, next_behind}
 use Rattle.summary.proofs.put_seconds.Goals as goal
 
 pub put_number-requires-2 : goal.put_number-requires-2

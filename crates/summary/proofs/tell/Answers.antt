@@ -1,7 +1,7 @@
 use mathlib.Core.List.{[]}
 use native.Mathlib.Omega.{arith}
 use Rattle.listing.specs.Words.{letters}
-use Rattle.scribe.specs.Page.{all_left, left_next, left_behind, none_left}
+use Rattle.scribe.specs.PageLaws.{all_left, left_next, left_behind, none_left}
 use Rattle.summary.proofs.Parts.{long_summary}
 use Rattle.summary.proofs.tell.Goals as goal
 

@@ -1,5 +1,5 @@
 use Rattle.listing.specs.Text.{frame_text}
-use Rattle.scribe.specs.Page.{next_first, next_behind}
+use Rattle.scribe.specs.PageLaws.{next_first, next_behind}
 use Rattle.text.proofs.put_bare.Goals as goal
 
 pub put_at-requires : goal.put_at-requires

@@ -1,6 +1,6 @@
 use Rattle.listing.specs.Text.{bracketed}
 use Rattle.listing.specs.Words.{letters}
-use Rattle.scribe.specs.Page.{next_first, next_behind}
+use Rattle.scribe.specs.PageLaws.{next_first, next_behind}
 use Rattle.text.proofs.put_bracketed.Goals as goal
 
 pub put-requires-2 : goal.put-requires-2

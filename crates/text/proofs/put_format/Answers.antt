@@ -1,4 +1,4 @@
-use Rattle.scribe.specs.Page.{next_first, next_behind}
+use Rattle.scribe.specs.PageLaws.{next_first, next_behind}
 use Rattle.listing.specs.Text.{format_text}
 use Rattle.text.proofs.put_format.Goals as goal
 

@@ -1,6 +1,6 @@
 use Rattle.std.proofs.Common.{arith}
 use Rattle.listing.specs.Text.{hexed}
-use Rattle.scribe.specs.Page.{next_first, next_behind, puts_both}
+use Rattle.scribe.specs.PageLaws.{next_first, next_behind, puts_both}
 use Rattle.text.proofs.Digits.{hex_spelled}
 use Rattle.text.proofs.put_hex.Goals as goal
 

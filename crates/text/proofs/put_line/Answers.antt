@@ -1,4 +1,4 @@
-use Rattle.scribe.specs.Page.{next_first, next_behind}
+use Rattle.scribe.specs.PageLaws.{next_first, next_behind}
 use Rattle.text.proofs.put_line.Goals as goal
 
 pub put_behind-requires : goal.put_behind-requires

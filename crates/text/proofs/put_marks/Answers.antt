@@ -1,4 +1,4 @@
-use Rattle.scribe.specs.Page.{next_behind}
+use Rattle.scribe.specs.PageLaws.{next_behind}
 use Rattle.text.proofs.put_marks.Goals as goal
 
 pub put_hex-requires-in-Frame : goal.put_hex-requires-in-Frame

@@ -1,6 +1,6 @@
 use Rattle.std.proofs.Common.{arith}
 use Rattle.listing.specs.Text.{numbered}
-use Rattle.scribe.specs.Page.{next_first, next_behind, puts_both}
+use Rattle.scribe.specs.PageLaws.{next_first, next_behind, puts_both}
 use Rattle.text.proofs.Digits.{decimal_spelled}
 use Rattle.text.proofs.put_number.Goals as goal
 

@@ -9,7 +9,8 @@ use Rattle.clip.specs.Frames.{clip_of, count_of}
 use Rattle.clip.specs.Turns.{few_in_clip}
 use Rattle.clip.specs.Rates.{clip_rate_small}
 use Rattle.clip.specs.File.{frame_parts, joined, wave_of, header_first}
-use Rattle.scribe.specs.Page.{Leaves, left_next, left_behind}
+use Rattle.scribe.specs.Page.{Leaves}
+use Rattle.scribe.specs.PageLaws.{left_next, left_behind}
 use Rattle.scribe.specs.declared.Page.{Page}
 use Rattle.scribe.specs.declared.Whole.TheVariants.{Wave}
 use Rattle.wav.proofs.put_file.Goals as goal

@@ -7,7 +7,8 @@ use lib.ListN.{length}
 use Rattle.clip.specs.Frames.{clip_of}
 use Rattle.clip.specs.Turns.{heard_next, begins, found_at}
 use Rattle.clip.specs.File.{frame_first, none_behind}
-use Rattle.scribe.specs.Page.{Leaves, left_next, left_behind, none_left}
+use Rattle.scribe.specs.Page.{Leaves}
+use Rattle.scribe.specs.PageLaws.{left_next, left_behind, none_left}
 use Rattle.scribe.specs.declared.Whole.TheVariants.{Wave}
 use Rattle.wav.proofs.put_frames.Goals as goal
 

@@ -1,7 +1,7 @@
 use mathlib.Core.List.{[]}
 use native.Mathlib.Omega.{arith}
 use Rattle.clip.specs.File.{none_of_long}
-use Rattle.scribe.specs.Page.{all_left, none_left}
+use Rattle.scribe.specs.PageLaws.{all_left, none_left}
 use Rattle.wav.proofs.whole.Goals as goal
 
 pub returns-else-stream-le65536 : goal.returns-else-stream-le65536
