@@ -16,7 +16,7 @@ pub next_behind : {old new : Page} {p q : List ℕ} → Puts old p new → IsNex
 next_behind {p = p} {q = q} put n = record { next = rw (put.what, put.stream) (second_next p q put.bytes n.next) }
 
 pub puts_nothing : {page : Page} → Puts page [] page
-puts_nothing = record { what = refl; stream = refl; bytes = omega arith }
+puts_nothing = record { what = refl; stream = refl; bytes = omega arith; kept = λ why e. e }
 
 pub puts_both : {old between new : Page} {p q : List ℕ} → Puts old p between → Puts between q new → Puts old (p ++ q) new
 puts_both {p = p} {q = q} first second =
@@ -24,6 +24,7 @@ puts_both {p = p} {q = q} first second =
       what = second.what ∙ first.what;
       stream = second.stream ∙ first.stream;
       bytes = omega (arith, second.bytes, first.bytes, length-append p q);
+      kept = λ why e. second.kept why (first.kept why e);
     }
 
 -- the four, for a search
