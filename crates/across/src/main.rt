@@ -19,23 +19,24 @@ fn put_bits(rt: HostRuntime, n: u64) -> Result<()> {
     print!(rt; " {n:016x}")
 }
 
+// A state, as the boundary has it.
+#[derive(Drop)]
+struct Saved {
+    places: [usize; 8],
+    counts: [u32; 8],
+    time: [f64; 1],
+}
+
 // The six places of the state, what the call passed over, two counts, and the next start.
-fn put_state(
-    rt: HostRuntime,
-    places: &[usize; 8],
-    counts: &[u32; 8],
-    time: &[f64; 1],
-) -> Result<()> {
-    put_number(rt, places[0] as u64)?;
-    put_number(rt, places[1] as u64)?;
-    put_number(rt, places[2] as u64)?;
-    put_number(rt, places[3] as u64)?;
-    put_number(rt, places[4] as u64)?;
-    put_number(rt, places[5] as u64)?;
-    put_number(rt, places[7] as u64)?;
-    put_count(rt, counts[0])?;
-    put_count(rt, counts[1])?;
-    put_bits(rt, text::time_bits(time[0]))
+fn put_state(rt: HostRuntime, saved: &Saved) -> Result<()> {
+    for place in &saved.places[..6] {
+        put_number(rt, *place as u64)?;
+    }
+    put_number(rt, saved.places[7] as u64)?;
+    for count in &saved.counts[..2] {
+        put_count(rt, *count)?;
+    }
+    put_bits(rt, text::time_bits(saved.time[0]))
 }
 
 fn put_frame(
@@ -49,105 +50,108 @@ fn put_frame(
     put_bits(rt, text::checksum::sum(output))
 }
 
-// tag_format, and its line.
-fn format(
+// tag_open, and its line.
+fn open(
     rt: HostRuntime,
     stream: &[u8],
-    places: &mut [usize; 8],
-    counts: &mut [u32; 8],
-    time: &mut [f64; 1],
+    memory: &mut [f32; synthesis::MEMORY],
+    saved: &mut Saved,
 ) -> Result<()> {
+    let number = tag::tag_open(
+        stream,
+        memory,
+        &mut saved.places,
+        &mut saved.counts,
+        &mut saved.time,
+        0,
+    );
+    print!(rt; "open")?;
+    put_count(rt, number)?;
+    put_state(rt, saved)?;
+    println!(rt)
+}
+
+// tag_format, and its line.
+fn format(rt: HostRuntime, stream: &[u8], saved: &mut Saved) -> Result<()> {
     let mut rate = [0u32; 1];
     let mut kbps = [0u32; 1];
     let mut mode = [0u32; 1];
     let number = tag::tag_format(
-        stream, places, counts, time, &mut rate, &mut kbps, &mut mode,
+        stream,
+        &mut saved.places,
+        &mut saved.counts,
+        &mut saved.time,
+        &mut rate,
+        &mut kbps,
+        &mut mode,
     );
     print!(rt; "format")?;
     put_count(rt, number)?;
-    put_state(rt, places, counts, time)?;
+    put_state(rt, saved)?;
     put_count(rt, rate[0])?;
     put_count(rt, kbps[0])?;
     put_count(rt, mode[0])?;
     println!(rt)
 }
 
-// After a call: the calls end, or go on.
-#[derive(Clone, Copy)]
-enum Then {
-    Last,
-    More,
-}
-
-// One call of tag_decode, and its line.
+// One call of tag_decode, and its line. It answers the call's number.
 fn decode(
     rt: HostRuntime,
     stream: &[u8],
     memory: &mut [f32; synthesis::MEMORY],
     output: &mut [f32; synthesis::OUTPUT],
-    places: &mut [usize; 8],
-    counts: &mut [u32; 8],
-    time: &mut [f64; 1],
-) -> Result<Then> {
+    saved: &mut Saved,
+) -> Result<u32> {
     let mut start = [0.0f64; 1];
     let mut bits = [0usize; 1];
     let number = tag::tag_decode(
-        stream, memory, output, places, counts, time, &mut start, &mut bits,
+        stream,
+        memory,
+        output,
+        &mut saved.places,
+        &mut saved.counts,
+        &mut saved.time,
+        &mut start,
+        &mut bits,
     );
     print!(rt; "decode")?;
     put_count(rt, number)?;
-    put_state(rt, places, counts, time)?;
+    put_state(rt, saved)?;
     if number == 0 {
         put_frame(rt, start[0], bits[0], output)?;
     }
     println!(rt)?;
-    if audio::ends(number) {
-        return Ok(Then::Last);
-    }
-    Ok(Then::More)
+    Ok(number)
 }
 
 fn play(rt: HostRuntime, stream: &[u8]) -> Result<()> {
     let mut memory = [0.0f32; synthesis::MEMORY];
     let mut output = [0.0f32; synthesis::OUTPUT];
-    let mut places = [0usize; 8];
-    let mut counts = [0u32; 8];
-    let mut time = [0.0f64; 1];
-    let number = tag::tag_open(stream, &mut memory, &mut places, &mut counts, &mut time, 0);
-    print!(rt; "open")?;
-    put_count(rt, number)?;
-    put_state(rt, &places, &counts, &time)?;
-    println!(rt)?;
-    format(rt, stream, &mut places, &mut counts, &mut time)?;
-    let mut calls = stream.len() / 2 + 2;
-    while 0 < calls {
-        calls -= 1;
-        match decode(
-            rt,
-            stream,
-            &mut memory,
-            &mut output,
-            &mut places,
-            &mut counts,
-            &mut time,
-        )? {
-            Then::Last => return Ok(()),
-            Then::More => {}
+    let mut saved = Saved {
+        places: [0; 8],
+        counts: [0; 8],
+        time: [0.0],
+    };
+    open(rt, stream, &mut memory, &mut saved)?;
+    format(rt, stream, &mut saved)?;
+    for _ in 0..stream.len() / 2 + 2 {
+        let number = decode(rt, stream, &mut memory, &mut output, &mut saved)?;
+        if audio::ends(number) {
+            break;
         }
     }
     Ok(())
 }
 
 fn tell(rt: HostRuntime) {
-    let mut stream = [0u8; 65537];
-    let got = input::read(&mut rt.stdin(), &mut stream);
-    if got.failed {
-        scribe::fail(rt, b"standard input", got.why);
-        return;
-    }
-    let n = got.bytes;
-    if let Err(why) = play(rt, &stream[..n]) {
-        scribe::fail(rt, b"standard output", Some(why));
+    let mut room = [0u8; 65537];
+    match input::read(&mut rt.stdin(), &mut room) {
+        Ok(stream) => {
+            if let Err(why) = play(rt, stream) {
+                scribe::fail(rt, b"standard output", why);
+            }
+        }
+        Err(why) => scribe::fail(rt, b"standard input", why),
     }
 }
 

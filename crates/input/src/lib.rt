@@ -1,50 +1,31 @@
-// What a program is given: bytes until their end, and whether a read failed, which `io::read_full` does not tell apart; and its arguments.
+// What a program is given: bytes until their end, or why a read failed, which `io::read_full` does not tell apart; and its arguments.
 #![tactic(auto)]
 
-ghost use Rattle.io.specs.Counts.{IsPrefixLen};
+ghost use Rattle.std.specs.Prelude.{◌≤◌, length, IfOk, IfSome};
 
 use std::env::{Env, FillError};
-use std::io::{Error, Read};
+use std::io::{Read, Result};
 
-#[derive(Clone, Copy)]
-pub struct Got {
-    pub bytes: usize,
-    pub failed: bool,
-    pub why: Option<Error>,
-}
-
-pub fn read<R: Read>(reader: &mut R, stream: &mut [u8]) -> Got
-    ensures { IsPrefixLen result.bytes stream.new }
+// Reads to the end, or until the room is full, and answers what was read.
+pub fn read<'a, R: Read>(reader: &mut R, room: &'a mut [u8]) -> Result<&'a [u8]>
+    ensures { IfOk result (λ bytes. length bytes.now ≤ length room.old) }
 {
-    let mut bytes = 0;
-    while bytes < stream.len() {
-        match reader.read(&mut stream[bytes..]) {
-            Ok(0) => break,
-            Ok(more) => bytes += more,
-            Err(error) => {
-                return Got {
-                    bytes,
-                    failed: true,
-                    why: Some(error),
-                };
-            }
+    let mut count = 0;
+    while count < room.len() {
+        match reader.read(&mut room[count..])? {
+            0 => break,
+            more => count += more,
         }
     }
-    Got {
-        bytes,
-        failed: false,
-        why: None,
-    }
+    Ok(&room[..count])
 }
 
-// Puts argument i at the start of the word and answers its length, or 0 where it is missing or longer than the word.
-pub fn argument(rt: &impl Env, i: usize, word: &mut [u8]) -> usize
-    ensures { IsPrefixLen result word.new }
+// Argument i, where there is one and the room holds it.
+pub fn argument<'a>(rt: &impl Env, i: usize, room: &'a mut [u8]) -> Option<&'a [u8]>
+    ensures { IfSome result (λ word. length word.now ≤ length room.old) }
 {
-    match rt.arg(i, word) {
-        Ok(n) => n,
-        Err(_) => 0,
-    }
+    let count = rt.arg(i, room).ok()?;
+    Some(&room[..count])
 }
 
 // How many arguments the program was started with, its own name among them.
@@ -58,9 +39,5 @@ pub fn argument_count(rt: &impl Env) -> usize {
 }
 
 fn is_argument(rt: &impl Env, i: usize) -> bool {
-    let mut word = [0u8; 1];
-    match rt.arg(i, &mut word) {
-        Err(FillError::NotPresent) => false,
-        _ => true,
-    }
+    !matches!(rt.arg(i, &mut [0u8; 1]), Err(FillError::NotPresent))
 }

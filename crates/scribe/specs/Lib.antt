@@ -1,2 +1,4 @@
 pub mod Next
+pub mod Page
+pub mod PageLaws
 pub mod Whole

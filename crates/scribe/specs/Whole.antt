@@ -3,6 +3,8 @@ use Rattle.std.specs.Prelude.{ℕ, List, ℤ, pos}
 use Rattle.listing.specs.Summary.{summary_of}
 use Rattle.listing.specs.Text.{listing_of}
 use Rattle.clip.specs.File.{wave_of}
+use Rattle.scribe.specs.declared.Descriptor.{Descriptor}
+use Rattle.scribe.specs.declared.Descriptor.TheVariants.{Output, Error}
 use Rattle.scribe.specs.declared.Whole.{Whole}
 use Rattle.scribe.specs.declared.Whole.TheVariants.{Lines, Summary, Wave}
 
@@ -16,3 +18,8 @@ abbrev pub descriptor_of : Whole → ℤ
 descriptor_of (Lines reading behind) = pos 1
 descriptor_of (Summary reading) = pos 2
 descriptor_of Wave = pos 1
+
+-- the system's numbers of the two streams
+abbrev pub number_of : Descriptor → ℤ
+number_of Output = pos 1
+number_of Error = pos 2

@@ -2,18 +2,13 @@
 // comes next.
 #![tactic(auto)]
 
-ghost use Rattle.std.specs.Prelude.{false, ◌≡◌, ◌+◌, ◌^◌, ◌<◌, length};
-ghost use Rattle.scribe.specs.Next.{Next};
-ghost use Rattle.scribe.specs.Whole.{descriptor_of, whole_of};
+ghost use Rattle.std.specs.Prelude.{◌≡◌, length, MatchResult};
+ghost use Rattle.scribe.specs.Page.{IsNext, IsNew, Puts};
+ghost use Rattle.scribe.specs.Whole.{descriptor_of, number_of};
 
 use listing::Behind;
 use readings::Reading;
 use std::io::{Error, Result, Stderr, Stdout, Write};
-
-// The system's numbers of the two streams.
-const STDOUT_FILENO: i32 = 1;
-
-const STDERR_FILENO: i32 = 2;
 
 // A stream's listing, or its summary in one line, in a reading; or its WAVE file, which is of the plain one.
 #[derive(Clone, Copy)]
@@ -23,85 +18,94 @@ pub enum Whole {
     Wave,
 }
 
-// How much of a text is written, and where it goes. The fields are this crate's alone: a count comes from `nothing_yet` and `put`, and from
-// nowhere else. After a write that failed nothing more is written, and `why` is what the system said of it.
-#[derive(Clone, Copy)]
-pub struct Written {
+// The two streams that are written to; specs/Whole has the system's numbers of them.
+enum Descriptor {
+    Output,
+    Error,
+}
+
+impl Whole {
+    // The summary is for whoever looks on: it goes to standard error, so that standard output has the listing or the file and nothing else.
+    fn descriptor(self) -> Descriptor
+        ensures { number_of result ≡ descriptor_of self }
+    {
+        match self {
+            Whole::Lines(_, _) => Descriptor::Output,
+            Whole::Summary(_) => Descriptor::Error,
+            Whole::Wave => Descriptor::Output,
+        }
+    }
+}
+
+// A text of a stream, how much of it is written, and where it goes. The fields are this crate's alone: a count comes from `new` and `put`, and
+// from nowhere else. A page is not copied, so no count is kept and used again; and it is not dropped, so that whoever has written asks
+// `finish` whether a write failed. After a write that failed nothing more is written.
+pub struct Page<'a> {
+    stream: &'a [u8],
+    what: Whole,
     output: Stdout,
     error: Stderr,
     bytes: usize,
-    failed: bool,
-    why: Option<Error>,
+    failure: Option<Error>,
 }
 
-pub fn nothing_yet(rt: HostRuntime) -> Written
-    ensures bytes_value { result.bytes ≡ 0 }
-    ensures failed_value { result.failed ≡ false }
-{
-    Written {
-        output: rt.stdout(),
-        error: rt.stderr(),
-        bytes: 0,
-        failed: false,
-        why: None,
+impl<'a> Page<'a> {
+    pub fn new(rt: HostRuntime, what: Whole, stream: &'a [u8]) -> Page<'a>
+        ensures { IsNew what stream.now result }
+    {
+        Page {
+            stream,
+            what,
+            output: rt.stdout(),
+            error: rt.stderr(),
+            bytes: 0,
+            failure: None,
+        }
     }
-}
 
-pub fn has_failed(done: Written) -> bool
-    ensures { result ≡ done.failed }
-{
-    done.failed
-}
-
-pub fn why(done: Written) -> Option<Error> {
-    done.why
-}
-
-// The summary is for whoever looks on: it goes to standard error, so that standard output has the listing or the file and nothing else.
-fn descriptor(what: Whole) -> i32
-    ensures { result ≡ descriptor_of what }
-{
-    match what {
-        Whole::Lines(_, _) => STDOUT_FILENO,
-        Whole::Summary(_) => STDERR_FILENO,
-        Whole::Wave => STDOUT_FILENO,
+    // Nothing can be written of a stream but the piece that comes next.
+    pub fn put(&mut self, piece: &[u8])
+        requires { IsNext self.old piece.now }
+        ensures { Puts self.old piece.now self.new }
+    {
+        self.bytes += piece.len();
+        if self.failure.is_none() {
+            self.failure = self.hand_on(piece).err();
+        }
     }
-}
 
-// Nothing can be written of a stream but the piece that comes next.
-pub fn put(stream: &[u8], what: Whole, done: Written, piece: &[u8]) -> Written
-    requires piece_bound { done.bytes + length piece.now < 2 ^ 64 }
-    requires next { Next (whole_of what stream.now) done.bytes piece.now }
-    ensures { result.bytes ≡ done.bytes + length piece.now }
-{
-    let bytes = done.bytes + piece.len();
-    if done.failed {
-        return Written { bytes, ..done };
+    fn hand_on(&self, piece: &[u8]) -> Result<()> {
+        match self.what.descriptor() {
+            Descriptor::Output => self.output.write_all(piece),
+            Descriptor::Error => self.error.write_all(piece),
+        }
     }
-    let why = hand_on(done, descriptor(what), piece).err();
-    Written {
-        bytes,
-        failed: why.is_some(),
-        why,
-        ..done
-    }
-}
 
-fn hand_on(done: Written, descriptor: i32, piece: &[u8]) -> Result<()> {
-    if descriptor == STDERR_FILENO {
-        return done.error.write_all(piece);
+    // Whether all of it was taken, or what the system said of the first write that failed.
+    pub fn finish(self) -> Result<()>
+        ensures { MatchResult result (λ _. self.entry.failure ≡ None) (λ why. self.entry.failure ≡ Some why) }
+    {
+        let Page {
+            stream: _,
+            what: _,
+            output: _,
+            error: _,
+            bytes: _,
+            failure,
+        } = self;
+        match failure {
+            None => Ok(()),
+            Some(why) => Err(why),
+        }
     }
-    done.output.write_all(piece)
 }
 
 // Writes a line to standard error: what failed, as the caller names it, a colon and the system's words for why.
-pub fn fail(rt: HostRuntime, what: &[u8], why: Option<Error>) {
+pub fn fail(rt: HostRuntime, what: &[u8], why: Error) {
     let error = rt.stderr();
     let _ = error.write_all(what);
     let _ = error.write_all(b": ");
-    if let Some(reason) = why {
-        let _ = tell_reason(error, reason);
-    }
+    let _ = tell_reason(error, why);
     let _ = error.write_all(b"\n");
 }
 

@@ -1,7 +1,7 @@
 // What a frame's fields are read by: its layout, and what stands before its codes.
 #![tactic(auto)]
 
-ghost use Rattle.std.specs.Prelude.{◌<◌, ◌≤◌};
+ghost use Rattle.std.specs.Prelude.{◌≤◌};
 ghost use Rattle.side.specs.Below.{SideInRange, side_with};
 
 // What the format says of a frame's fields: one channel or two, the table of allocations, the subband from which one allocation serves
@@ -12,7 +12,6 @@ pub struct Layout {
     pub table: usize,
     pub bound: usize,
     pub limit: usize,
-    ghost tables: { table < 2 },
     ghost subbands: { limit ≤ 32 },
 }
 

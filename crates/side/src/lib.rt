@@ -50,7 +50,7 @@ fn allocation_band(
     sb: usize,
     quant: &mut [u8; 64],
 ) -> Reader
-    requires { (quantisers.now ≡ step4) × (sb < 32) }
+    requires { (quantisers.now ≡ step4) × (layout.table < 2) × (sb < 32) }
     ensures { taken quant.new result ≡ run (allocation_band_of layout.table layout.bound sb quant.old) s.now reader }
 {
     let left = read_allocation(reader, s, quantisers, layout.table, sb, sb, quant);
@@ -62,6 +62,7 @@ fn allocation_band(
 }
 
 fn allocations(reader: Reader, s: &[u8], layout: Layout, quant: &mut [u8; 64]) -> Reader
+    requires { layout.table < 2 }
     ensures { taken quant.new result
         ≡ run (allocations_of layout.table layout.bound layout.limit quant.old) s.now reader }
 {
@@ -184,6 +185,7 @@ fn read_selector(reader: Reader, s: &[u8], place: usize, selector: &mut [u8; 64]
 
 // What stands before the codes, and the reader after it.
 pub fn read_side(reader: Reader, s: &[u8], layout: Layout) -> Taken<SideInfo>
+    requires { layout.table < 2 }
     ensures side { taken (side_in result.value) result.next
         ≡ run (side_of layout.mono layout.table layout.bound layout.limit) s.now reader }
     ensures layout { result.value.layout ≡ layout }

@@ -1,71 +1,74 @@
 -- The parts of a summary, by what was counted. Assumes nothing.
-use Prim.Native.Nat.{ℕ, suc, ◌-◌, ◌≤◌, ◌<◌}
-use mathlib.Core.Path.{◌≡◌, ap}
-use mathlib.Core.Bool.{cond}
-use mathlib.Core.List.{List, [], ◌++◌}
+use Prim.Native.Nat.{ℕ, zero, suc, ◌+◌, ◌-◌, ◌≤◌, ◌<◌}
+use mathlib.Core.Path.{◌≡◌, ap, sym, refl, ◌∙◌}
+use mathlib.Core.List.{List, [], ◌++◌, append_assoc, append-nil}
 use native.Mathlib.Omega.{arith}
-use lib.Dec.{eqb}
-use lib.ListN.{length}
-use borrow.Author.Tests.{lt-ltb, le-ltb, eq-eqb, ne_eqb}
+use native.Mathlib.Nat.{add-zero, zero-add}
+use lib.ListN.{length, get_or}
+use borrow.Author.Tests.{lt-ltb, le-ltb}
+use Rattle.ground.specs.Table.{at_table}
 use Rattle.readings.specs.declared.Reading.{Reading}
 use Rattle.listing.specs.Lines.{lines_of}
-use Rattle.listing.specs.Summary.{counted_text, hundredths_of, seconds_text, frames_text, junk_text, reason_text, refusal_text, refusals_text, lines_text, summary_of}
-use Rattle.listing.specs.Tally.{first_of, rates_in, bytes_in, end_in, junk_in}
-use Rattle.listing.specs.Text.{newline, numbered}
+use Rattle.listing.specs.Summary.{frames_text, junk_text, reason_text, refusal_text, refusals_text, lines_text, summary_of}
+use Rattle.listing.specs.Tally.{bytes_in}
+use Rattle.listing.specs.Text.{newline}
 use Rattle.listing.specs.Words.{letters}
 use Rattle.listing.specs.declared.Line.{Line}
+use Rattle.tally.specs.Tally.{kept_of, tally_of}
+use Rattle.tally.specs.declared.Kept.{Kept}
+use Rattle.tally.specs.declared.Tally.{Tally}
+use Rattle.summary.specs.Refusals.{refusals_by}
 
-abbrev pub plural_of : ℕ → List ℕ
-plural_of n = cond (eqb n 1) [] (letters "s")
+-- so many numbers, and then so many more
+refusals_add : (refused : List Kept) (n some more : ℕ)
+    → refusals_by refused n (some + more) ≡ refusals_by refused n some ++ refusals_by refused (n + some) more
+unfolding refusals_by
+refusals_add refused n zero more = rw (zero-add more, add-zero n)
+refusals_add refused n (suc some) more =
+    let kept = get_or refused n (kept_of []) in
+    let this = refusal_text n kept.count kept.first in
+    let e : suc some + more ≡ suc (some + more) = omega arith in
+    let f : suc n + some ≡ n + suc some = omega arith in
+    ap (refusals_by refused n) e ∙ ap (λ (text : List ℕ). this ++ text) (refusals_add refused (suc n) some more)
+    ∙ sym (append_assoc this (refusals_by refused (suc n) some) (refusals_by refused (suc n + some) more))
+    ∙ ap (λ (k : ℕ). (this ++ refusals_by refused (suc n) some) ++ refusals_by refused k more) f
 
-pub one_thing : (n : ℕ) → n ≡ 1 → plural_of n ≡ []
-one_thing n e = rw (eq-eqb n 1 e)
+module _ (refused : List Kept) (number : ℕ) (from : 2 ≤ number) (below : number < 16) where
+  abbrev this : List ℕ
+  this = let kept = get_or refused number (kept_of []) in refusal_text number kept.count kept.first
 
-pub many_things : (n : ℕ) → (n ≡ 1 → ⊥) → plural_of n ≡ letters "s"
-many_things n e = rw (ne_eqb n 1 e)
+  -- before a number, it and those behind it
+  pub around : refusals_by refused 2 14 ≡ refusals_by refused 2 (number - 2) ++ (this ++ refusals_by refused (suc number) (15 - number))
+  unfolding refusals_by
+  around =
+      let e : 14 ≡ (number - 2) + suc (15 - number) = omega arith in
+      let f : 2 + (number - 2) ≡ number = omega arith in
+      ap (refusals_by refused 2) e ∙ refusals_add refused 2 (number - 2) (suc (15 - number))
+      ∙ ap (λ (k : ℕ). refusals_by refused 2 (number - 2) ++ refusals_by refused k (suc (15 - number))) f
 
-pub no_frame : (frames rate : ℕ) → frames ≡ 0 → frames_text frames rate ≡ letters "0 frames: nothing was played"
-unfolding frames_text
-no_frame frames rate e = rw (eq-eqb frames 0 e)
+  pub one_more : refusals_by refused 2 (number + 1 - 2) ≡ refusals_by refused 2 (number - 2) ++ this
+  unfolding refusals_by
+  one_more =
+      let e : number + 1 - 2 ≡ (number - 2) + 1 = omega arith in
+      let f : 2 + (number - 2) ≡ number = omega arith in
+      ap (refusals_by refused 2) e ∙ refusals_add refused 2 (number - 2) 1
+      ∙ ap (λ (k : ℕ). refusals_by refused 2 (number - 2) ++ refusals_by refused k 1) f
+      ∙ ap (λ (text : List ℕ). refusals_by refused 2 (number - 2) ++ text) (append-nil this)
 
-pub some_frames : (frames rate : ℕ) → (frames ≡ 0 → ⊥)
-    → frames_text frames rate ≡ counted_text [] frames (letters " frame") ++ seconds_text (hundredths_of frames rate)
-unfolding frames_text
-some_frames frames rate e = rw (ne_eqb frames 0 e)
+-- a tally keeps of each number what the listing has
+refusals_counted : (lines : List Line) (n more : ℕ) → n + more ≤ 16 → refusals_by (tally_of lines).refused n more ≡ refusals_text lines n more
+unfolding refusals_by refusals_text tally_of
+refusals_counted lines n zero l = refl
+refusals_counted lines n (suc more) l =
+    let is = at_table (kept_of []) 16 (λ i. kept_of (bytes_in i lines)) n (omega arith) in
+    rw (is, refusals_counted lines (suc n) more (omega arith))
 
-pub no_junk : (bytes : ℕ) → bytes ≡ 0 → junk_text bytes ≡ []
-unfolding junk_text
-no_junk bytes e = rw (eq-eqb bytes 0 e)
-
-pub some_junk : (bytes : ℕ) → (bytes ≡ 0 → ⊥) → junk_text bytes ≡ counted_text (letters "; ") bytes (letters " byte") ++ letters " of junk in front"
-unfolding junk_text
-some_junk bytes e = rw (ne_eqb bytes 0 e)
-
-pub no_refusal : (n count first : ℕ) → count ≡ 0 → refusal_text n count first ≡ []
-unfolding refusal_text
-no_refusal n count first e = rw (eq-eqb count 0 e)
-
-pub some_refusals : (n count first : ℕ) → (count ≡ 0 → ⊥)
-    → refusal_text n count first
-    ≡ counted_text (letters "; ") count (letters " call") ++ (reason_text (letters " refused with ") n ++ numbered (letters " from byte ") first)
-unfolding refusal_text
-some_refusals n count first e = rw (ne_eqb count 0 e)
-
-pub next_refusal : (lines : List Line) (n : ℕ) → n < 16
-    → refusals_text lines n (16 - n) ≡ refusal_text n (length (bytes_in n lines)) (first_of (bytes_in n lines)) ++ refusals_text lines (suc n) (16 - suc n)
-unfolding refusals_text
-next_refusal lines n l = let e : 16 - n ≡ suc (16 - suc n) = omega arith in ap (refusals_text lines n) e
-
-pub no_more : (lines : List Line) (n : ℕ) → 16 ≤ n → refusals_text lines n (16 - n) ≡ []
-unfolding refusals_text
-no_more lines n l = let e : 16 - n ≡ 0 = omega arith in ap (refusals_text lines n) e
-
-pub short_summary : (c : Reading) (s : List ℕ) → length s ≤ 65536
+pub summary_is : (c : Reading) (s : List ℕ) (t : Tally) → length s ≤ 65536 → t ≡ tally_of (lines_of c s)
     → summary_of c s
-    ≡ frames_text (length (rates_in (lines_of c s))) (first_of (rates_in (lines_of c s)))
-    ++ (junk_text (junk_in (lines_of c s)) ++ (refusals_text (lines_of c s) 2 14 ++ (reason_text (letters "; ended with ") (end_in (lines_of c s)) ++ newline)))
-unfolding summary_of lines_text
-short_summary c s l = rw (le-ltb 65536 (length s) l)
+    ≡ frames_text t.frames.count t.frames.first
+    ++ (junk_text t.junk ++ (refusals_by t.refused 2 14 ++ (reason_text (letters "; ended with ") t.end ++ newline)))
+unfolding summary_of lines_text tally_of
+summary_is c s t l e = rw (e, le-ltb 65536 (length s) l, refusals_counted (lines_of c s) 2 14 (omega arith))
 
 pub long_summary : (c : Reading) (s : List ℕ) → 65536 < length s → summary_of c s ≡ letters "too long: 65,536 bytes at most\n"
 unfolding summary_of

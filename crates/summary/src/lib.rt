@@ -1,157 +1,127 @@
 // A stream in one line of words, on standard error: its frames, the junk in front, its refusals by their numbers, its end.
 #![tactic(auto)]
 
-ghost use Rattle.std.specs.Prelude.{◌≡◌, ◌+◌, ◌^◌, ◌≤◌, ◌<◌, length};
-ghost use Rattle.listing.specs.Lines.{lines_of};
-ghost use Rattle.listing.specs.Summary.{counted_text, frames_text, hundredths_of, junk_text, reason_text, refusal_text, refusals_text, seconds_text, summary_of};
-ghost use Rattle.scribe.specs.Next.{Next};
-ghost use Rattle.scribe.specs.Whole.{whole_of};
-ghost use Rattle.tally.specs.Tally.{tally_of};
+ghost use Rattle.std.specs.Prelude.{◌≡◌, ◌≤◌, length};
+ghost use Rattle.listing.specs.Summary.{counted_text, frames_text, hundredths_of, junk_text, reason_text, refusal_text, seconds_text};
+ghost use Rattle.scribe.specs.Page.{IsNext, IsWritten, Puts};
+ghost use Rattle.summary.specs.Refusals.{refusals_by};
 
 use readings::Reading;
-use scribe::{Whole, Written};
+use scribe::{Page, Whole};
 use tally::Kept;
 
 // "1 frame", "2 frames".
-fn put_counted(
-    stream: &[u8],
-    what: Whole,
-    done: Written,
-    word: &[u8],
-    n: u64,
-    things: &[u8],
-) -> Written
-    requires stream_len_bound { length (whole_of what stream.now) < 2 ^ 64 }
-    requires next { Next (whole_of what stream.now) done.bytes (counted_text word.now n things.now) }
-    ensures { result.bytes ≡ done.bytes + length (counted_text word.now n things.now) }
+#[tactic(auto, using(scribe::specs::PageLaws::pieces), unfolding(listing::specs::Summary::counted_text))]
+fn put_counted(page: &mut Page, word: &[u8], n: u64, things: &[u8])
+    requires { IsNext page.old (counted_text word.now n things.now) }
+    ensures { Puts page.old (counted_text word.now n things.now) page.new }
 {
-    let counted = text::put_number(stream, what, done, word, n);
-    let named = scribe::put(stream, what, counted, things);
-    if n == 1 {
-        return named;
+    text::put_number(page, word, n);
+    page.put(things);
+    if n != 1 {
+        page.put(b"s");
     }
-    scribe::put(stream, what, named, b"s")
 }
 
 fn hundredths(frames: u32, rate: usize) -> u64
     ensures { result ≡ hundredths_of frames rate }
 {
-    if rate == 0 {
-        return 0;
-    }
-    (frames as u64 * 115200 + rate as u64 / 2) / rate as u64
+    (frames as u64 * 115200 + rate as u64 / 2)
+        .checked_div(rate as u64)
+        .unwrap_or(0)
 }
 
-fn put_seconds(stream: &[u8], what: Whole, done: Written, n: u64) -> Written
-    requires stream_len_bound { length (whole_of what stream.now) < 2 ^ 64 }
-    requires next { Next (whole_of what stream.now) done.bytes (seconds_text n) }
-    ensures { result.bytes ≡ done.bytes + length (seconds_text n) }
+#[tactic(auto, using(scribe::specs::PageLaws::pieces), unfolding(listing::specs::Summary::seconds_text))]
+fn put_seconds(page: &mut Page, n: u64)
+    requires { IsNext page.old (seconds_text n) }
+    ensures { Puts page.old (seconds_text n) page.new }
 {
-    let whole = text::put_number(stream, what, done, b", ", n / 100);
-    let tenth = text::put_number(stream, what, whole, b".", n / 10 % 10);
-    let hundredth = text::put_number(stream, what, tenth, b"", n % 10);
-    scribe::put(stream, what, hundredth, b" s")
+    text::put_number(page, b", ", n / 100);
+    text::put_number(page, b".", n / 10 % 10);
+    text::put_number(page, b"", n % 10);
+    page.put(b" s");
 }
 
-fn put_frames(stream: &[u8], what: Whole, done: Written, frames: Kept) -> Written
-    requires stream_len_bound { length (whole_of what stream.now) < 2 ^ 64 }
-    requires next { Next (whole_of what stream.now) done.bytes (frames_text frames.count frames.first) }
-    ensures { result.bytes ≡ done.bytes + length (frames_text frames.count frames.first) }
+#[tactic(auto, using(scribe::specs::PageLaws::pieces), unfolding(listing::specs::Summary::frames_text))]
+fn put_frames(page: &mut Page, frames: Kept)
+    requires { IsNext page.old (frames_text frames.count frames.first) }
+    ensures { Puts page.old (frames_text frames.count frames.first) page.new }
 {
     if frames.count == 0 {
-        return scribe::put(stream, what, done, b"0 frames: nothing was played");
+        page.put(b"0 frames: nothing was played");
+    } else {
+        put_counted(page, b"", frames.count as u64, b" frame");
+        put_seconds(page, hundredths(frames.count, frames.first));
     }
-    let counted = put_counted(stream, what, done, b"", frames.count as u64, b" frame");
-    put_seconds(
-        stream,
-        what,
-        counted,
-        hundredths(frames.count, frames.first),
-    )
 }
 
 // None is not told.
-fn put_junk(stream: &[u8], what: Whole, done: Written, bytes: usize) -> Written
-    requires stream_len_bound { length (whole_of what stream.now) < 2 ^ 64 }
-    requires next { Next (whole_of what stream.now) done.bytes (junk_text bytes) }
-    ensures { result.bytes ≡ done.bytes + length (junk_text bytes) }
+#[tactic(auto, using(scribe::specs::PageLaws::pieces), unfolding(listing::specs::Summary::junk_text))]
+fn put_junk(page: &mut Page, bytes: usize)
+    requires { IsNext page.old (junk_text bytes) }
+    ensures { Puts page.old (junk_text bytes) page.new }
 {
-    if bytes == 0 {
-        return done;
+    if bytes > 0 {
+        put_counted(page, b"; ", bytes as u64, b" byte");
+        page.put(b" of junk in front");
     }
-    let counted = put_counted(stream, what, done, b"; ", bytes as u64, b" byte");
-    scribe::put(stream, what, counted, b" of junk in front")
 }
 
 // A number, and what it means.
-fn put_reason(stream: &[u8], what: Whole, done: Written, word: &[u8], number: u32) -> Written
-    requires stream_len_bound { length (whole_of what stream.now) < 2 ^ 64 }
-    requires next { Next (whole_of what stream.now) done.bytes (reason_text word.now number) }
-    ensures { result.bytes ≡ done.bytes + length (reason_text word.now number) }
+#[tactic(auto, using(scribe::specs::PageLaws::pieces), unfolding(listing::specs::Summary::reason_text))]
+fn put_reason(page: &mut Page, word: &[u8], number: u32)
+    requires { IsNext page.old (reason_text word.now number) }
+    ensures { Puts page.old (reason_text word.now number) page.new }
 {
-    let numbered = text::put_number(stream, what, done, word, number as u64);
-    let opened = scribe::put(stream, what, numbered, b" (");
-    let told = text::put_reason(stream, what, opened, number);
-    scribe::put(stream, what, told, b")")
+    text::put_number(page, word, number as u64);
+    text::put_bracketed(page, text::reason(number));
 }
 
 // A number that no call was refused with is not told.
-fn put_refusal(stream: &[u8], what: Whole, done: Written, number: u32, refused: Kept) -> Written
-    requires stream_len_bound { length (whole_of what stream.now) < 2 ^ 64 }
-    requires next { Next (whole_of what stream.now) done.bytes (refusal_text number refused.count refused.first) }
-    ensures { result.bytes ≡ done.bytes + length (refusal_text number refused.count refused.first) }
+#[tactic(auto, using(scribe::specs::PageLaws::pieces), unfolding(listing::specs::Summary::refusal_text))]
+fn put_refusal(page: &mut Page, number: u32, refused: Kept)
+    requires { IsNext page.old (refusal_text number refused.count refused.first) }
+    ensures { Puts page.old (refusal_text number refused.count refused.first) page.new }
 {
-    if refused.count == 0 {
-        return done;
+    if refused.count > 0 {
+        put_counted(page, b"; ", refused.count as u64, b" call");
+        put_reason(page, b" refused with ", number);
+        text::put_number(page, b" from byte ", refused.first as u64);
     }
-    let counted = put_counted(stream, what, done, b"; ", refused.count as u64, b" call");
-    let named = put_reason(stream, what, counted, b" refused with ", number);
-    text::put_number(stream, what, named, b" from byte ", refused.first as u64)
 }
 
 // Every number that a tally has a place for, up to 15, so that no refusal is left out. 2 to 6 and 13 are those of a call that was refused
 // and is not the end.
-fn put_refusals(stream: &[u8], reading: Reading, done: Written, refused: [Kept; 16]) -> Written
-    requires refused_value { refused ≡ (tally_of (lines_of reading stream.now)).refused }
-    requires stream_len_bound { length (summary_of reading stream.now) < 2 ^ 64 }
-    requires next { Next (summary_of reading stream.now) done.bytes (refusals_text (lines_of reading stream.now) 2 14) }
-    ensures { result.bytes ≡ done.bytes + length (refusals_text (lines_of reading stream.now) 2 14) }
+fn put_refusals(page: &mut Page, refused: &[Kept; 16])
+    requires { IsNext page.old (refusals_by refused.now 2 14) }
+    ensures { Puts page.old (refusals_by refused.now 2 14) page.new }
 {
-    let mut told = done;
-    let mut number: usize = 2;
-    while number < 16 {
-        let kept = refused[number];
-        told = put_refusal(stream, Whole::Summary(reading), told, number as u32, kept);
-        number += 1;
+    for number in 2..16 {
+        put_refusal(page, number as u32, refused[number]);
     }
-    told
 }
 
-fn put_lines(rt: HostRuntime, stream: &[u8], reading: Reading) -> Written
+fn put_lines<'a>(rt: HostRuntime, stream: &'a [u8], reading: Reading) -> Page<'a>
     requires { length stream.now ≤ 65536 }
-    ensures { result.bytes ≡ length (summary_of reading stream.now) }
+    ensures { IsWritten (Whole.Summary reading) stream.now result }
 {
-    let what = Whole::Summary(reading);
     let tally = tally::count(stream, reading);
-    let frames = tally.frames;
-    let refused = tally.refused;
-    let first = put_frames(stream, what, scribe::nothing_yet(rt), frames);
-    let second = put_junk(stream, what, first, tally.junk);
-    let third = put_refusals(stream, reading, second, refused);
-    let fourth = put_reason(stream, what, third, b"; ended with ", tally.end);
-    scribe::put(stream, what, fourth, b"\n")
+    let mut page = Page::new(rt, Whole::Summary(reading), stream);
+    put_frames(&mut page, tally.frames);
+    put_junk(&mut page, tally.junk);
+    put_refusals(&mut page, &tally.refused);
+    put_reason(&mut page, b"; ended with ", tally.end);
+    page.put(b"\n");
+    page
 }
 
-pub fn tell(rt: HostRuntime, stream: &[u8], reading: Reading) -> Written
-    ensures { result.bytes ≡ length (summary_of reading stream.now) }
+pub fn tell<'a>(rt: HostRuntime, stream: &'a [u8], reading: Reading) -> Page<'a>
+    ensures { IsWritten (Whole.Summary reading) stream.now result }
 {
     if stream.len() <= 65536 {
         return put_lines(rt, stream, reading);
     }
-    scribe::put(
-        stream,
-        Whole::Summary(reading),
-        scribe::nothing_yet(rt),
-        b"too long: 65,536 bytes at most\n",
-    )
+    let mut page = Page::new(rt, Whole::Summary(reading), stream);
+    page.put(b"too long: 65,536 bytes at most\n");
+    page
 }

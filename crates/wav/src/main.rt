@@ -5,67 +5,67 @@
 ghost use Rattle.std.specs.Prelude.{◌≤◌, ◌≡◌, length};
 ghost use Rattle.clip.specs.Frames.{clip_of};
 ghost use Rattle.clip.specs.File.{frame_parts, joined, wave_of};
-ghost use Rattle.scribe.specs.Next.{Rest};
+ghost use Rattle.scribe.specs.Page.{IsWritten, Leaves};
 
-use scribe::{Whole, Written};
+use scribe::{Page, Whole};
 
 // The second pass, from a fresh opening: a part for each frame, behind the header.
-fn put_frames(stream: &[u8], done: Written, frames: usize) -> Written
-    requires stream_len_bound { (length stream.now ≤ 65536) × (frames ≡ length (clip_of stream.now)) × (done.bytes ≡ 44) }
-    requires rest { Rest (wave_of stream.now) done.bytes (joined (frame_parts (clip_of stream.now))) }
-    ensures { result.bytes ≡ length (wave_of stream.now) }
+fn put_frames(page: &mut Page, stream: &[u8], frames: usize)
+    requires short { length stream.now ≤ 65536 }
+    requires counted { frames ≡ length (clip_of stream.now) }
+    requires left { Leaves Whole.Wave stream.now page.old (joined (frame_parts (clip_of stream.now))) }
+    ensures { IsWritten Whole.Wave stream.now page.new }
 {
     let mut memory = [0.0f32; synthesis::MEMORY];
     let mut output = [0.0f32; synthesis::OUTPUT];
     let mut bytes = [0u8; 4608];
     let mut playing = clip::start(stream, &mut memory);
-    let mut told = done;
-    let mut i = 0;
-    while i < frames {
+    for _ in 0..frames {
         let reached = clip::next(playing, stream, &mut memory, &mut output);
         riff::write_samples(&output, &mut bytes);
-        told = scribe::put(stream, Whole::Wave, told, &bytes);
+        page.put(&bytes);
         playing = reached.playing;
-        i += 1;
     }
-    told
 }
 
 // The lengths stand before the samples, so the first pass counts.
-fn put_file(rt: HostRuntime, stream: &[u8]) -> Written
-    requires { length stream.now ≤ 65536 }
-    ensures { result.bytes ≡ length (wave_of stream.now) }
+fn put_file(page: &mut Page, stream: &[u8])
+    requires short { length stream.now ≤ 65536 }
+    requires left { Leaves Whole.Wave stream.now page.old (wave_of stream.now) }
+    ensures { IsWritten Whole.Wave stream.now page.new }
 {
     let counted = clip::count(stream);
     let header = riff::header(counted.frames as u32, counted.rate);
-    let told = scribe::put(stream, Whole::Wave, scribe::nothing_yet(rt), &header);
-    put_frames(stream, told, counted.frames)
+    page.put(&header);
+    put_frames(page, stream, counted.frames);
 }
 
 // Of more than 65,536 bytes it writes nothing.
-fn whole(rt: HostRuntime, stream: &[u8]) -> Written
-    ensures { result.bytes ≡ length (wave_of stream.now) }
+fn whole<'a>(rt: HostRuntime, stream: &'a [u8]) -> Page<'a>
+    ensures { IsWritten Whole.Wave stream.now result }
 {
+    let mut page = Page::new(rt, Whole::Wave, stream);
     if stream.len() <= 65536 {
-        return put_file(rt, stream);
+        put_file(&mut page, stream);
     }
-    scribe::nothing_yet(rt)
+    page
 }
 
 fn play(rt: HostRuntime) {
-    let mut stream = [0u8; 65537];
-    let got = input::read(&mut rt.stdin(), &mut stream);
-    if got.failed {
-        scribe::fail(rt, b"standard input", got.why);
-        return;
+    let mut room = [0u8; 65537];
+    match input::read(&mut rt.stdin(), &mut room) {
+        Ok(stream) => tell(rt, stream),
+        Err(why) => scribe::fail(rt, b"standard input", why),
     }
-    let n = got.bytes;
-    let told = whole(rt, &stream[..n]);
-    if scribe::has_failed(told) {
-        scribe::fail(rt, b"standard output", scribe::why(told));
-        return;
+}
+
+fn tell(rt: HostRuntime, stream: &[u8]) {
+    match whole(rt, stream).finish() {
+        Ok(()) => {
+            let _ = summary::tell(rt, stream, readings::plain()).finish();
+        }
+        Err(why) => scribe::fail(rt, b"standard output", why),
     }
-    summary::tell(rt, &stream[..n], readings::plain());
 }
 
 fn main(rt: HostRuntime) {

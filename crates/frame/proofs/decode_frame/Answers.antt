@@ -1,7 +1,10 @@
 use mathlib.Core.Path.{ap, ◌∙◌}
 use Rattle.frame.specs.Frame.{frame_memory, frame_output}
-use Rattle.frame.proofs.Whole.{whole}
+use Rattle.frame.proofs.Whole.{table<2, whole}
 use Rattle.frame.proofs.decode_frame.Goals as goal
+
+pub read_side-side-requires : goal.read_side-side-requires
+read_side-side-requires c = let f = c.args.f in rw c.lay_out.ensures.table (table<2 f.mode f.bitrate f.samplerate)
 
 -- the granules behind the side information are the whole frame's
 pub returns : goal.returns

@@ -1,12 +1,8 @@
 use native.Mathlib.Omega.{arith}
 use Rattle.tables.specs.Laws.{limit≤30}
-use Rattle.frame.proofs.Whole.{table<2}
 use Rattle.frame.proofs.lay_out.Goals as goal
 
 pub invariant_of-result : goal.invariant_of-result
 invariant_of-result c =
     let f = c.args.f in
-    record {
-      tables = rw c.allocation_table.ensures (table<2 f.mode f.bitrate f.samplerate);
-      subbands = omega (arith, c.limit-limit.ensures, limit≤30 f.mode f.bitrate f.samplerate);
-    }
+    record { subbands = omega (arith, c.limit-limit.ensures, limit≤30 f.mode f.bitrate f.samplerate) }

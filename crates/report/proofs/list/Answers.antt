@@ -1,47 +1,49 @@
+use Prim.Native.Nat.{◌+◌, ◌-◌, ◌/◌}
 use mathlib.Core.Path.{refl}
+use lib.ListN.{length}
+use Rattle.std.proofs.Math.Nat.{sub-zero}
 use native.Mathlib.Omega.{arith}
 use lib.Ieee.{of_bits}
-use borrow.Author.Rules.{rules}
 use Rattle.listing.specs.LinesLaws.{opening_carries_few}
-use Rattle.report.proofs.Lengths.{listing_fits}
-use Rattle.report.proofs.Turns.{opening_next, calls_rest, line_next, none_left, after_last, after_other}
+use Rattle.scribe.specs.PageLaws.{all_left, left_next, left_behind}
+use Rattle.report.proofs.Turns.{begins, line_next, no_calls, after_last, after_other}
 use Rattle.report.proofs.list.Goals as goal
 
-pub put_opening-done-requires : goal.put_opening-done-requires
+pub put_opening-requires : goal.put_opening-requires
 unfolding of_bits
-put_opening-done-requires c =
-    let e = c.new-opened.ensures in record { stream_len_bound = listing_fits _ _ _; next = opening_next _ _ _ _ _ c.requires e.value e.memory_after _ refl _ c.nothing_yet.ensures.bytes_value }
+put_opening-requires c =
+    let e = c.new-opened.ensures in
+    left_next _ (all_left _ c.new-page.ensures (begins _ _ _ _ _ c.requires e.value e.memory_after _ refl))
 
-pub loop-calls-init : goal.loop-calls-init
+pub loop-init : goal.loop-init
 unfolding of_bits
-loop-calls-init c =
-    let e = c.new-opened.ensures in (
-      search rules,
-      search rules,
-      opening_carries_few _ _ _ _ _ e.value c.carried-carried.ensures,
-      calls_rest _ _ _ _ _ c.requires e.value e.memory_after _ c.carried-carried.ensures _ _ c.nothing_yet.ensures.bytes_value
-          c.put_opening-done.ensures,
-    )
+loop-init c =
+    let e = c.new-opened.ensures in
+    record {
+      few = opening_carries_few _ _ _ _ _ e.value c.carried-carried.ensures;
+      left = rw (sub-zero _) (left_behind c.put_opening.ensures
+          (all_left _ c.new-page.ensures (begins _ _ _ _ _ c.requires e.value e.memory_after _ c.carried-carried.ensures)));
+    }
 
-pub put_line-done-requires : goal.put_line-done-requires
-put_line-done-requires c =
-    let e = c.next_line-listed.ensures in record { stream_len_bound = listing_fits _ _ _; next = line_next _ _ _ _ _ _ _ c.loop-calls.invariant.3 _ _ _ (omega arith) e.value e.memory_after e.output_after }
+pub put_line-requires : goal.put_line-requires
+put_line-requires c =
+    let e = c.next_line-listed.ensures in
+    line_next _ _ _ _ _ _ _ c.loop.invariant.left (length c.args.stream.now / 2 + 2 - (c.loop.counter + 1)) _ _ _ (omega arith) e.value e.memory_after e.output_after
 
-pub loop-calls-preserved : goal.loop-calls-preserved
-loop-calls-preserved c =
-    let e = c.next_line-listed.ensures in (
-      search rules,
-      search rules,
-      search rules,
-      after_other _ _ _ _ _ _ _ c.loop-calls.invariant.3 _ _ _ (omega arith) e.value e.memory_after e.output_after _ _ c.put_line-done.ensures c.is_last.ensures
-          c.if-is_last.false,
-    )
+pub loop-preserved : goal.loop-preserved
+loop-preserved c =
+    let e = c.next_line-listed.ensures in
+    record {
+      few = omega arith;
+      left = after_other _ _ _ _ _ _ _ c.loop.invariant.left (length c.args.stream.now / 2 + 2 - (c.loop.counter + 1)) _ _ _ (omega arith) e.value e.memory_after e.output_after
+          c.put_line.ensures _ c.is_last.ensures c.if-is_last.false;
+    }
 
-pub returns-after-loop-calls : goal.returns-after-loop-calls
-returns-after-loop-calls c = none_left _ _ _ _ _ _ _ c.loop-calls.invariant.3 (omega arith)
+pub returns-after-loop : goal.returns-after-loop
+returns-after-loop c = no_calls _ _ _ _ _ _ _ c.loop.invariant.left (omega arith)
 
 pub returns-then-is_last : goal.returns-then-is_last
 returns-then-is_last c =
     let e = c.next_line-listed.ensures in
-    after_last _ _ _ _ _ _ _ c.loop-calls.invariant.3 _ _ _ (omega arith) e.value e.memory_after e.output_after _ _ c.put_line-done.ensures c.is_last.ensures
-    c.if-is_last.true
+    after_last _ _ _ _ _ _ _ c.loop.invariant.left (length c.args.stream.now / 2 + 2 - (c.loop.counter + 1)) _ _ _ (omega arith) e.value e.memory_after e.output_after
+    c.put_line.ensures _ c.is_last.ensures c.if-is_last.true

@@ -1,16 +1,15 @@
 use Prim.Native.Nat.{ℕ}
-use mathlib.Core.Path.{◌≡◌, ap, sym, subst, ◌∙◌}
+use mathlib.Core.Path.{◌≡◌, sym, subst, ◌∙◌}
 use mathlib.Core.Bool.{Bool, true, false}
 use mathlib.Core.List.{[], append-nil}
-use native.Mathlib.Omega.{arith}
-use lib.ListN.{length}
 use Rattle.state.specs.declared.Audio.{Audio}
 use Rattle.buffer.specs.declared.BytePos.{BytePos}
 use Rattle.listing.specs.declared.Behind.{Behind}
 use Rattle.listing.specs.declared.Line.TheVariants.{Refused as RefusedLine}
 use Rattle.listing.specs.Lines.{byte_position, opening_told, opening_shown}
 use Rattle.listing.specs.Text.{text_by, texts_of}
-use Rattle.scribe.specs.Next.{Next}
+use Rattle.scribe.specs.Page.{IsNext, Puts}
+use Rattle.scribe.specs.PageLaws.{puts_nothing}
 use Rattle.report.proofs.put_opening.Goals as goal
 use Rattle.verdict.specs.Verdict.{Heading}
 use Rattle.refusal.specs.Numbers.{number_of}
@@ -33,25 +32,20 @@ module _ (behind : Behind) (k : ℕ) (answer : Heading) (a : Audio) where
 
 pub put_line-requires : goal.put_line-requires
 put_line-requires c =
-    let text_is : texts_of c.args.behind (opening_shown c.args.opened.skipped c.args.opened.answer c.args.opened.state) ≡ text_by c.args.behind (RefusedLine c.number-number.result c.byte_of-at.result c.args.opened.skipped) [] =
-    refusal _ _ _ _ _ _ c.number-number.ensures _ c.in-Err.is c.is_told.ensures _ c.byte_of-at.ensures c.if-is_told.true in
-    record { stream_len_bound = c.requires.stream_len_bound; next = subst (Next _ _) text_is c.requires.next }
+    let text = refusal _ _ _ _ _ _ c.number-number.ensures _ c.in-Err.is c.is_told.ensures _ c.byte_of-at.ensures c.if-is_told.true in
+    subst (IsNext _) text c.requires
 
 pub returns-then-is_told : goal.returns-then-is_told
 returns-then-is_told c =
-    let text_is : texts_of c.args.behind (opening_shown c.args.opened.skipped c.args.opened.answer c.args.opened.state) ≡ text_by c.args.behind (RefusedLine c.number-number.result c.byte_of-at.result c.args.opened.skipped) [] =
-    refusal _ _ _ _ _ _ c.number-number.ensures _ c.in-Err.is c.is_told.ensures _ c.byte_of-at.ensures c.if-is_told.true in
-    omega (arith, c.put_line.ensures, ap length text_is)
+    let text = refusal _ _ _ _ _ _ c.number-number.ensures _ c.in-Err.is c.is_told.ensures _ c.byte_of-at.ensures c.if-is_told.true in
+    subst (λ t. Puts c.args.page.now t c.put_line.new.page) (sym text) c.put_line.ensures
 
 pub returns-in-Ok : goal.returns-in-Ok
 returns-in-Ok c =
     let a = c.args in
-    omega (arith, ap length (known a.behind a.opened.skipped a.opened.answer a.opened.state c.in-Ok.is))
+    rw (known a.behind a.opened.skipped a.opened.answer a.opened.state c.in-Ok.is) puts_nothing
 
 pub returns-else-is_told : goal.returns-else-is_told
 returns-else-is_told c =
     let a = c.args in
-    omega (
-      arith,
-      ap length (untold a.behind a.opened.skipped a.opened.answer a.opened.state _ _ c.number-number.ensures _ c.in-Err.is c.is_told.ensures c.if-is_told.false),
-    )
+    rw (untold a.behind a.opened.skipped a.opened.answer a.opened.state _ _ c.number-number.ensures _ c.in-Err.is c.is_told.ensures c.if-is_told.false) puts_nothing

@@ -1,15 +1,17 @@
+use mathlib.Core.List.{[]}
 use native.Mathlib.Omega.{arith}
-use Rattle.report.proofs.Lengths.{listing_fits}
-use Rattle.report.proofs.Turns.{long_next, long_only}
+use Rattle.listing.specs.Text.{text_by}
+use Rattle.listing.specs.declared.Line.TheVariants.{Long}
+use Rattle.scribe.specs.PageLaws.{all_left, left_next, left_behind, none_left}
+use Rattle.report.proofs.Turns.{one_line}
 use Rattle.report.proofs.whole.Goals as goal
 
-pub returns-then-stream-le65536 : goal.returns-then-stream-le65536
-returns-then-stream-le65536 c = c.list.ensures
-
 pub put_line-requires : goal.put_line-requires
-put_line-requires c = record { stream_len_bound = listing_fits _ _ _; next = long_next _ _ _ (omega arith) _ c.nothing_yet.ensures.bytes_value }
+put_line-requires c =
+    let line = text_by c.args.behind Long [] in
+    left_next {p = line} [] (all_left _ c.new-page.ensures (one_line _ _ _ (omega arith)))
 
 pub returns : goal.returns
 returns c =
-    let a = c.args in
-    omega (arith, c.put_line.ensures, c.nothing_yet.ensures.bytes_value, long_only a.reading a.behind a.stream.now (omega arith))
+    let line = text_by c.args.behind Long [] in
+    none_left (left_behind {p = line} c.put_line.ensures (all_left _ c.new-page.ensures (one_line _ _ _ (omega arith))))

@@ -1,13 +1,16 @@
-use mathlib.Core.Path.{sym}
-use native.Mathlib.Nat.{div-zero}
-use borrow.Author.Rules.{rules}
+use Rattle.std.specs.Prelude.{ℕ, ◌<◌, ◌/◌, ◌≡◌, Some, None, unwrap_or}
+use Rattle.std.specs.Option.{SomeIff}
+use Rattle.std.specs.declared.option.Option.{Option}
+use Rattle.std.proofs.Common.{◌∙◌, sym, arith}
+use Rattle.std.proofs.Math.Nat.{div-zero}
 use Rattle.listing.specs.Summary.{hundredths_of}
 use Rattle.summary.proofs.hundredths.Goals as goal
 
-pub returns-then-rate-eq0 : goal.returns-then-rate-eq0
-unfolding hundredths_of
-returns-then-rate-eq0 c = rw c.if-rate-eq0.true (sym (div-zero _))
+-- nothing by nothing is nothing
+quotient : (o : Option ℕ) (n d : ℕ) → SomeIff o (0 < d) (n / d) → unwrap_or o 0 ≡ n / d
+quotient None n d none = let e : d ≡ 0 = omega (arith, none) in rw e (sym (div-zero n))
+quotient (Some x) n d some = some.1
 
 pub returns : goal.returns
 unfolding hundredths_of
-returns c = search rules
+returns c = c.unwrap_or.ensures ∙ quotient _ _ _ c.checked_div.ensures

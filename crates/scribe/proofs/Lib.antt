@@ -1,0 +1,4 @@
+pub mod Fits
+pub mod ListingFits
+pub mod SummaryFits
+pub mod WaveFits
