@@ -5,7 +5,6 @@ use Rattle.buffer.specs.Numbers.{result_number}
 use Rattle.refusal.specs.Numbers.{number_of}
 use Rattle.verdict.specs.Verdict.{Heading}
 use Rattle.audio.specs.Calls.{Reply}
-use Rattle.audio.specs.declared.ClipFormat.{ClipFormat}
 use Rattle.audio.specs.declared.Answer.{Answer}
 use Rattle.audio.specs.declared.Answer.TheVariants.{Frame, Refused}
 

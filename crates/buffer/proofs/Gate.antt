@@ -1,6 +1,6 @@
 -- What a call knows behind the two refusals that each begins with.
 -- Assumes nothing.
-use Rattle.std.specs.Prelude.{ℕ, ◌≤◌, ◌≡◌, refl, cond, List, length, ltb, Result, Ok, Err}
+use Rattle.std.specs.Prelude.{ℕ, ◌≤◌, ◌≡◌, List, length, ltb, Result, Ok, Err}
 use Rattle.std.specs.Result.{IsErr, IsErrAnd}
 use Rattle.std.proofs.Common.{sym, subst, ◌∙◌, ltb-false}
 use Rattle.ground.specs.Tests.{by_test}
@@ -9,7 +9,6 @@ use Rattle.buffer.specs.Calls.{gate}
 use Rattle.buffer.specs.declared.Reader.{Reader}
 use Rattle.refusal.specs.Handed.{handed_on}
 use Rattle.refusal.specs.declared.Refusal.{Refusal}
-use Rattle.refusal.specs.declared.Refusal.TheVariants.{LongStream, BadState}
 
 module _ {A : Type 0} (s : List ℕ) (r : Reader) (go : Result A Refusal) where
   -- either the call goes on, or its answer is the refusal

@@ -8,7 +8,7 @@ use Rattle.buffer.specs.declared.Reader.{Reader}
 use Rattle.buffer.specs.declared.Taken.{Taken}
 use Rattle.buffer.specs.declared.Sync.TheVariants.{Found, Missing}
 use Rattle.refusal.specs.declared.Refusal.{Refusal}
-use Rattle.refusal.specs.declared.Refusal.TheVariants.{LongStream, BadState, WideRead, ShortRead}
+use Rattle.refusal.specs.declared.Refusal.TheVariants.{LongStream, WideRead, ShortRead}
 
 -- the answers to reads of the given widths, one after the other; a read that fails leaves the reader where it was
 pub reads : List ℕ → Reader → List ℕ → List (Result (Taken ℕ) Refusal)

@@ -1,9 +1,8 @@
 -- What an accepted header holds, whatever the stream: ranges of its format, and a data size of 90 to 1,725 (01's state in range).
 -- Assumes nothing.
-use Rattle.std.specs.Prelude.{ℕ, ◌+◌, ◌-◌, ◌*◌, ◌/◌, ◌≤◌, ◌<◌, ◌^◌, ◌≡◌, refl, Bool, true, false, cond, not, ◌&&◌, ◌||◌, List, eqb, leb, Option, Some, None, Result, Ok, Err}
+use Rattle.std.specs.Prelude.{ℕ, ◌+◌, ◌-◌, ◌*◌, ◌/◌, ◌≤◌, ◌<◌, ◌^◌, ◌≡◌, refl, Bool, true, false, cond, not, ◌&&◌, ◌||◌, List, eqb, leb, Some, None, Result, Ok, Err}
 use Rattle.std.proofs.Common.{sym, arith, leb→le, eqb-true, ne_eqb}
 use Rattle.std.proofs.lemmas.Bool.{eqb-false, not-false}
-use Rattle.ground.specs.Rows.{never}
 use Rattle.ground.specs.Tests.{by_test, neither}
 use Rattle.ground.specs.Upto.{below2, and_left, and_right}
 use Rattle.buffer.specs.declared.Reader.{Reader}

@@ -1,7 +1,7 @@
 -- One header attempt by 01's table: the numbers 1 to 6, 13 (02, E3) and 0, each given exactly when, in the order in which the header is read,
 -- the place where reading goes on, and the byte of the sync's FF (02, E2). From 01, "Numbers a call can give" and "From the bytes to a header". Assumes nothing.
 use Prim.Native.Nat.{ℕ, ◌+◌, ◌-◌, ◌*◌, ◌/◌, ◌≤◌, ◌<◌}
-use Rattle.std.specs.Prelude.{◌≡◌, Bool, ◌&&◌, ◌||◌, List, ◌⊎◌, T, eqb, leb, ltb, length, Option, Some, None, Result, Ok, Err}
+use Rattle.std.specs.Prelude.{◌≡◌, Bool, ◌&&◌, ◌||◌, List, ◌⊎◌, T, eqb, leb, ltb, length, Some, None, Result, Ok, Err}
 use Rattle.std.proofs.Math.Path.{refl, ap}
 use Rattle.std.proofs.Common.{sym, subst, ◌∙◌, inl, inr}
 use Rattle.std.proofs.Math.Bool.{true, false, cond}

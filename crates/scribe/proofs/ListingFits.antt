@@ -26,7 +26,6 @@ use Rattle.listing.specs.TextLaws.{short_number, short_hex, short_reason}
 use Rattle.listing.specs.Words.{line_words, mode_words}
 use Rattle.verdict.specs.Verdict.{Heading}
 use Rattle.refusal.specs.Numbers.{number_of}
-use Rattle.refusal.specs.declared.Refusal.{Refusal}
 use Rattle.std.specs.Prelude.{Ok, Err}
 
 abbrev Short : List ℕ → Type 0

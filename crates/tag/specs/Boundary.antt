@@ -1,7 +1,7 @@
 -- The decoder's state and answers as numbers: what firmware, or a test in another language, gets across the boundary, and what each
 -- of the four calls promises there. Three are audio's calls; the fourth rounds a frame's samples. Assumes nothing.
 use Rattle.std.specs.Prelude.{ℕ, ◌≡◌, refl, Bool, false, cond, ◌||◌, List, [], ◌∷◌, ◌++◌, ltb, length, take, drop, get_or, pos, Float, Err}
-use Rattle.std.proofs.Common.{ap, subst, ◌∙◌}
+use Rattle.std.proofs.Common.{ap, ◌∙◌}
 use Rattle.std.specs.Float.{fin, nan, binary64}
 use Rattle.std.specs.Float.Ieee.{of_bits, to_bits, is_nan, div, of_int}
 use Rattle.ground.specs.First.{first_from}
@@ -16,15 +16,13 @@ use Rattle.clock.specs.Clock.{start_time_of, are_same_bits, on_time}
 use Rattle.state.specs.State.{fresh, numbers_ok, in_range}
 use Rattle.state.specs.declared.Audio.{Audio}
 use Rattle.verdict.specs.Verdict.{attempt_of, headed_of, enough_of, at_once_of, ready_of, known_of, Asked}
-use Rattle.audio.specs.Calls.{no_room_of, open_of, open_memory, format_of, decode_of, decode_memory, decode_output, Reply, Decoded}
-use Rattle.readings.specs.declared.Reading.{Reading}
+use Rattle.audio.specs.Calls.{no_room_of, open_of, format_of, decode_of, decode_memory, decode_output, Reply, Decoded}
 use Rattle.audio.specs.Numbers.{heading_number, reply_number, reply_rate, reply_kbps, reply_mode, answer_number, answer_start, answer_bits, little_room}
 use Rattle.audio.specs.declared.Answer.{Answer}
 use Rattle.audio.specs.declared.Answer.TheVariants.{Refused as AnswerRefused}
 use Rattle.tag.specs.declared.Named.{Named}
 use Rattle.tag.specs.declared.Played.{Played}
 use Rattle.refusal.specs.declared.Refusal.TheVariants.{NoSync, CutOff}
-use Rattle.refusal.specs.declared.Refusal.{Refusal}
 
 -- ---- the state as three arrays
 

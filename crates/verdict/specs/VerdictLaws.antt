@@ -1,7 +1,7 @@
 -- The verdict walked once: each test with what it found, and the state that it leaves. Whoever asks what comes before a frame cites
 -- `verdict-holds` or `verdict-only`. From 01, "Numbers a call can give". Assumes nothing.
 use Prim.Native.Nat.{ℕ, ◌+◌, ◌*◌, ◌≤◌, ◌<◌}
-use Rattle.std.specs.Prelude.{◌≡◌, Bool, cond, List, ◌⊎◌, eqb, length, Option, Some, None, Result, Ok, Err}
+use Rattle.std.specs.Prelude.{◌≡◌, Bool, List, ◌⊎◌, eqb, length, Option, Some, None, Result, Ok, Err}
 use Rattle.std.proofs.Math.Path.{refl, sym}
 use Rattle.std.proofs.Common.{ap, subst, ◌∙◌, inl, inr, add-zero, zero-add, arith}
 use Rattle.std.proofs.Math.Bool.{true, false}
@@ -20,7 +20,6 @@ use Rattle.header.specs.Header.{header_of, most_data, passed_by}
 use Rattle.header.specs.Accepted.{Extended, Good, GoodHeader, header_good}
 use Rattle.header.specs.Moves.{attempt_moves, few_bits_stay}
 use Rattle.header.specs.Passed.{sync_within}
-use Rattle.header.specs.declared.Format.{Format}
 use Rattle.header.specs.declared.Accepted.{Accepted}
 use Rattle.clock.specs.Clock.{start_time_of}
 use Rattle.state.specs.State.{in_range}

@@ -1,8 +1,4 @@
-use borrow.Author.Rules.{rules}
-use mathlib.Core.Path.{◌∙◌, ap, sym}
-use native.Mathlib.Numerals.{add-one}
 use native.Mathlib.Omega.{arith}
-use Rattle.buffer.specs.Bits.{bit_at, bits_value}
 use Rattle.buffer.proofs.Words.{double_fits, none_yet, one_more}
 use Rattle.buffer.proofs.last_bits.Goals as goal
 

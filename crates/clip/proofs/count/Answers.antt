@@ -8,7 +8,7 @@ use borrow.Author.Rules.{rules}
 use Rattle.std.specs.Prelude.{is_some}
 use Rattle.refusal.specs.Handed.{not_there}
 use Rattle.clip.specs.Frames.{clip_of, rate_in}
-use Rattle.clip.specs.Turns.{heard_next, few_in_clip, begins, told_rate, one_found, none_found, one_fewer}
+use Rattle.clip.specs.Turns.{heard_next, few_in_clip, begins, told_rate, none_found, one_fewer}
 use Rattle.clip.proofs.count.Invariants.{heard_from}
 use Rattle.clip.proofs.count.Goals as goal
 
