@@ -7,7 +7,10 @@ use native.Mathlib.Nat.{lt_of_lt_of_le, le_of_suc-le-suc}
 use native.Mathlib.Omega.{arith}
 use lib.Pow.{pow_mono, shr-shr, shl-shr, high, low, field}
 use lib.ListN.{get_or}
-use Rattle.buffer.specs.Bits.{bit_at, bits_value}
+use Rattle.std.specs.Prelude.{max, Bool, true, false, ltb, length}
+use Rattle.std.proofs.Common.{ltb-true, ltb-false}
+use Rattle.ground.specs.First.{first_from, first_none}
+use Rattle.buffer.specs.Bits.{bit_at, bits_value, other_at, past_of}
 use Rattle.buffer.specs.Laws.{split, bits_below, byte_is_bits}
 use Rattle.buffer.specs.Calls.{taken, or_zero}
 use Rattle.buffer.specs.declared.Reader.{Reader}
@@ -81,3 +84,18 @@ one_more s at place v b l e f =
     let more : place + 1 - at ≡ suc (place - at) = omega arith in
     let here : at + (place - at) ≡ place = omega arith in
     rw (more, here, e, f) refl
+
+-- a search that came to the stream's end, or began behind it, stands at the farther of the two
+pub past_end : (s : List ℕ) (v from i : ℕ) → length s ≤ i → (from ≤ length s → i ≤ length s)
+    → first_from (other_at s v) (length s - i) i ≡ past_of s v from → max from (length s) ≡ past_of s v from
+past_end s v from i late near is = go (ltb from (length s)) refl
+  where
+    go : (t : Bool) → ltb from (length s) ≡ t → max from (length s) ≡ past_of s v from
+    go true e =
+        let l = ltb-true _ _ e in
+        let at = first_none (other_at s v) (length s) i _ late is in
+        omega (arith, near (omega arith))
+    go false e =
+        let l = ltb-false _ _ e in
+        let at = first_none (other_at s v) (length s) from _ l refl in
+        omega arith

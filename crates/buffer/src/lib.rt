@@ -183,17 +183,12 @@ fn first_other(s: &[u8], from: BytePos, v: u8) -> BytePos
     ensures is { result.0 ≡ past_of s.now v from.0 }
     ensures within { (from.0 ≤ result.0) × (result.0 ≤ from.0 + length s.now) }
 {
-    let mut i = from.0;
-    let found = loop {
-        if s.len() <= i {
-            break i;
-        }
+    for i in from.0..s.len() {
         if s[i] != v {
-            break i;
+            return BytePos(i);
         }
-        i += 1;
-    };
-    BytePos(found)
+    }
+    BytePos(from.0.max(s.len()))
 }
 
 impl Reader {

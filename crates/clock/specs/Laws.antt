@@ -4,10 +4,10 @@ use Rattle.std.specs.Prelude.{◌≡◌, refl, Bool, true, false, not, cond, ℕ
 use Rattle.std.proofs.Common.{sym, ap, ◌∙◌, arith, le-leb, eqb→eq}
 use Rattle.std.proofs.Math.Dec.{eqb-suc-zero}
 use Rattle.std.specs.Float.{Format, binary64, nan, inf, fin}
-use Rattle.std.specs.Float.Ieee.{is_nan, fits, to_bits, of_bits, odd, units, round, of_int, div, size, prec, low, emax, unlike, up, down}
+use Rattle.std.specs.Float.Ieee.{is_nan, fits, to_bits, of_bits, odd, units, round, of_int, div, ne, size, prec, low, emax, unlike, up, down}
 use Rattle.std.specs.Float.Ieee.Fits.{and_r, round_is}
 use Rattle.std.specs.Float.Ieee.Bits.{of_bits-to_bits}
-use Rattle.ground.specs.Floats.{Real}
+use Rattle.ground.specs.Floats.{Real, nan_of_other}
 use Rattle.clock.specs.Clock.{start_time_of, are_same_bits}
 
 cond_real : (b : Bool) (x y : Float) → Real x → Real y → Real (cond b x y)
@@ -27,6 +27,10 @@ units_real f s q k =
 
 round_real : (f : Format) (s : Bool) (a b : ℕ) → Real (round f s a b)
 round_real f s a b = rw round_is (units_real f s _ _)
+
+pub nan_unlike : (x y : Float) → ne x x ≡ true → false ≡ are_same_bits x y
+unfolding are_same_bits is_nan
+nan_unlike x y h = rw (nan_of_other x h)
 
 pub like_bits : (x y : Float) → Real x → eqb (to_bits binary64 x) (to_bits binary64 y) ≡ are_same_bits x y
 unfolding are_same_bits is_nan

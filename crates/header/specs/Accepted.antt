@@ -1,8 +1,9 @@
 -- What an accepted header holds, whatever the stream: ranges of its format, and a data size of 90 to 1,725 (01's state in range).
 -- Assumes nothing.
-use Rattle.std.specs.Prelude.{ℕ, ◌+◌, ◌-◌, ◌*◌, ◌/◌, ◌≤◌, ◌<◌, ◌^◌, ◌≡◌, refl, Bool, true, false, cond, not, ◌&&◌, ◌||◌, List, eqb, leb, Some, None, Result, Ok, Err}
+use Rattle.std.specs.Prelude.{ℕ, ◌+◌, ◌-◌, ◌*◌, ◌/◌, ◌≤◌, ◌<◌, ◌^◌, ◌≡◌, refl, Bool, true, false, cond, not, ◌&&◌, ◌||◌, List, eqb, leb, Option, Some, None, Result, Ok, Err}
 use Rattle.std.proofs.Common.{sym, arith, leb→le, eqb-true, ne_eqb}
 use Rattle.std.proofs.lemmas.Bool.{eqb-false, not-false}
+use Rattle.std.proofs.lemmas.Option.{none-some}
 use Rattle.ground.specs.Tests.{by_test, neither}
 use Rattle.ground.specs.Upto.{below2, and_left, and_right}
 use Rattle.buffer.specs.declared.Reader.{Reader}
@@ -112,8 +113,14 @@ same_format known f d n =
     is m n e = sym (eqb-true m n (not-false _ e))
 
 -- an accepted header: neither 13 nor 6 fell after its mode
-abbrev pub NeitherFell : Format → ℕ → ℕ → ℕ → Type 0
-NeitherFell known b f mode = (barred known.reading b mode ≡ false) × (differs known b f mode ≡ false)
+pub after_mode : (known : Format) (b f mode : ℕ) → after_mode_of known b f mode ≡ None
+    → (barred known.reading b mode ≡ false) × (differs known b f mode ≡ false)
+after_mode known b f mode = go (barred known.reading b mode) (differs known b f mode)
+  where
+    go : (x y : Bool) → cond x (Some BarredRate) (cond y (Some OtherFormat) None) ≡ None → (x ≡ false) × (y ≡ false)
+    go false false e = (refl, refl)
+    go false true e = absurd (none-some _ (sym e))
+    go true y e = absurd (none-some _ (sym e))
 
 -- 01's ranges of a format and a data size, and 02's pairs (E3)
 pub record Good (known f : Format) (size : ℕ) : Type 0 where
@@ -133,25 +140,21 @@ abbrev pub GoodHeader : Format → Result Accepted Refusal → Type 0
 GoodHeader known (Ok x) = Good known x.format x.size
 GoodHeader known (Err e) = Unit
 
--- 13, then 6: either ends the reading, and without them it goes on
-in_turn : (known : Format) (b f mode : ℕ) (more : Reads (Result Accepted Refusal)) → (NeitherFell known b f mode → Always (GoodHeader known) more)
-    → Always (GoodHeader known) (unless_refused (after_mode_of known b f mode) more)
+-- a refusal ends the reading, and without one it goes on
+unless_good : (known : Format) (found : Option Refusal) (more : Reads (Result Accepted Refusal)) → (found ≡ None → Always (GoodHeader known) more)
+    → Always (GoodHeader known) (unless_refused found more)
 unfolding Always
-in_turn known b f mode more good = go (barred known.reading b mode) (differs known b f mode) refl refl
-  where
-    go : (x y : Bool) → barred known.reading b mode ≡ x → differs known b f mode ≡ y
-        → Always (GoodHeader known) (unless_refused (cond x (Some BarredRate) (cond y (Some OtherFormat) None)) more)
-    go true y d e = tt
-    go false true d e = tt
-    go false false d e = good (d, e)
+unless_good known (Some n) more good = tt
+unless_good known None more good = good refl
 
 rest_good : (known : Format) (check : Bool) (b f p : ℕ) → b < 14 → f < 3 → p < 2 → Always (GoodHeader known) (rest_of known check b f p)
 unfolding rest_of Always
 rest_good known check b f p l m n =
     always_bind (λ mode. mode < 4) (GoodHeader known) mode_of _ mode_small
-    (λ mode k. in_turn known b f mode _
-    (λ d. always_bind (Extended mode) (GoodHeader known) (bound_of mode check) _ (bound_extended mode check)
+    (λ mode k. unless_good known (after_mode_of known b f mode) _
+    (λ e. always_bind (Extended mode) (GoodHeader known) (bound_of mode check) _ (bound_extended mode check)
     (λ bound h.
+    let d = after_mode known b f mode e in
     let z = size_fits b f p check l m n in
     let y = bound_small mode h.0 h.1 in
     record {
