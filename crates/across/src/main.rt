@@ -148,10 +148,10 @@ fn tell(rt: HostRuntime) {
     match input::read(&mut rt.stdin(), &mut room) {
         Ok(stream) => {
             if let Err(why) = play(rt, stream) {
-                scribe::fail(rt, b"standard output", why);
+                scribe::fail(rt, b"standard output", Some(why));
             }
         }
-        Err(why) => scribe::fail(rt, b"standard input", why),
+        Err(why) => scribe::fail(rt, b"standard input", Some(why)),
     }
 }
 

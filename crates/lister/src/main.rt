@@ -9,7 +9,7 @@ fn list(rt: HostRuntime, reading: Reading, behind: Behind) {
     let mut room = [0u8; 65537];
     match input::read(&mut rt.stdin(), &mut room) {
         Ok(stream) => tell(rt, stream, reading, behind),
-        Err(why) => scribe::fail(rt, b"standard input", why),
+        Err(why) => scribe::fail(rt, b"standard input", Some(why)),
     }
 }
 
@@ -18,7 +18,7 @@ fn tell(rt: HostRuntime, stream: &[u8], reading: Reading, behind: Behind) {
         Ok(()) => {
             let _ = summary::tell(rt, stream, reading).finish();
         }
-        Err(why) => scribe::fail(rt, b"standard output", why),
+        Err(why) => scribe::fail(rt, b"standard output", Some(why)),
     }
 }
 

@@ -28,7 +28,7 @@ fn replay(rt: HostRuntime, i: usize) -> Result<()> {
     match read(rt, name, &mut room) {
         Ok(stream) => list(rt, name, stream),
         Err(why) => {
-            scribe::fail(rt, name, why);
+            scribe::fail(rt, name, Some(why));
             Ok(())
         }
     }
@@ -46,6 +46,6 @@ fn main(rt: HostRuntime) {
     if count <= 1 {
         let _ = eprintln!(rt; "usage: ./run replay FILE ..");
     } else if let Err(why) = replay_all(rt, count) {
-        scribe::fail(rt, b"standard output", why);
+        scribe::fail(rt, b"standard output", Some(why));
     }
 }

@@ -101,11 +101,13 @@ impl<'a> Page<'a> {
 }
 
 // Writes a line to standard error: what failed, as the caller names it, a colon and the system's words for why.
-pub fn fail(rt: HostRuntime, what: &[u8], why: Error) {
+pub fn fail(rt: HostRuntime, what: &[u8], why: Option<Error>) {
     let error = rt.stderr();
     let _ = error.write_all(what);
     let _ = error.write_all(b": ");
-    let _ = tell_reason(error, why);
+    if let Some(reason) = why {
+        let _ = tell_reason(error, reason);
+    }
     let _ = error.write_all(b"\n");
 }
 

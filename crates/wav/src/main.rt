@@ -55,7 +55,7 @@ fn play(rt: HostRuntime) {
     let mut room = [0u8; 65537];
     match input::read(&mut rt.stdin(), &mut room) {
         Ok(stream) => tell(rt, stream),
-        Err(why) => scribe::fail(rt, b"standard input", why),
+        Err(why) => scribe::fail(rt, b"standard input", Some(why)),
     }
 }
 
@@ -64,7 +64,7 @@ fn tell(rt: HostRuntime, stream: &[u8]) {
         Ok(()) => {
             let _ = summary::tell(rt, stream, readings::plain()).finish();
         }
-        Err(why) => scribe::fail(rt, b"standard output", why),
+        Err(why) => scribe::fail(rt, b"standard output", Some(why)),
     }
 }
 
