@@ -6,16 +6,14 @@ use Rattle.grammar.specs.Reads.{Taken, run}
 use Rattle.side.specs.Info.{side_in}
 use Rattle.side.specs.declared.info.SideInfo.{SideInfo}
 use Rattle.codes.specs.Frame.{granule_of, granules_of}
-use Rattle.window.specs.Window.{window_list}
 use Rattle.window.specs.Output.{Place}
 use Rattle.synthesis.specs.Slots.{memory_length, output_length, slot_samples, position_after, memory_after, output_after}
 use Rattle.frame.specs.Frame.{frame_memory, frame_output}
 use Rattle.frame.specs.declared.Sounded.{Sounded}
 
--- a ring position, the window, and slices that are long enough
-pub record GranulesLent (ring : ℕ) (window memory output : List Float) : Type 0 where
+-- a ring position, and slices that are long enough
+pub record GranulesLent (ring : ℕ) (memory output : List Float) : Type 0 where
   pub place : Place ring
-  pub window_is : window ≡ window_list
   pub memory_long : memory_length ≤ length memory
   pub output_long : output_length ≤ length output
 

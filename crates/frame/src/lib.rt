@@ -13,6 +13,7 @@ use buffer::Reader;
 use header::Format;
 use side::{Layout, SideInfo};
 use tables::MODE_MONO;
+use window::Window;
 
 // The reader after the codes so far, and the ring position after their slots.
 #[derive(Clone, Copy)]
@@ -57,11 +58,11 @@ fn granule(
     start: Sounded,
     side: &SideInfo,
     g: usize,
-    window: &[f32; 512],
+    window: &Window,
     memory: &mut [f32],
     output: &mut [f32],
 ) -> Sounded
-    requires { (g < 12) × GranulesLent start.ring window.now memory.old output.old }
+    requires { (g < 12) × GranulesLent start.ring memory.old output.old }
     ensures { let x = one_granule s.now start.end side.now g in
         GranuleSounds x g start.ring memory.old output.old result memory.new output.new }
 {
@@ -76,11 +77,11 @@ fn granules(
     s: &[u8],
     start: Sounded,
     side: &SideInfo,
-    window: &[f32; 512],
+    window: &Window,
     memory: &mut [f32],
     output: &mut [f32],
 ) -> Sounded
-    requires { GranulesLent start.ring window.now memory.old output.old }
+    requires { GranulesLent start.ring memory.old output.old }
     ensures { let x = twelve_granules s.now start.end side.now in
         FrameSounds x start.ring memory.old output.old result memory.new output.new }
 {

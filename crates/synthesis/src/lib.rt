@@ -3,9 +3,10 @@
 
 ghost use Rattle.std.specs.Prelude.{◌≡◌, ◌+◌, ◌*◌, ◌<◌, ◌≤◌, length};
 ghost use Rattle.transform.specs.Transform.{Small};
-ghost use Rattle.window.specs.Window.{window_list};
 ghost use Rattle.window.specs.Output.{Place, output_of, stores};
 ghost use Rattle.synthesis.specs.Slots.{memory_length, slot_ring, slot_memory, slot_output, slot_samples, position_after, memory_after, output_after};
+
+use window::Window;
 
 // The values of synthesis memory, both channels' rings, and of a frame's output, both channels' samples.
 pub const MEMORY: usize = 2048;
@@ -17,12 +18,11 @@ fn channel_slot(
     ring: &mut [f32],
     p: usize,
     samples: &[i32],
-    window: &[f32; 512],
+    window: &Window,
     output: &mut [f32],
     at: usize,
 )
-    requires { Place p × (length ring.old ≡ 1024) × (length samples.now ≡ 32) × Small samples.now × (window.now ≡ window_list)
-        × (at + 63 ≤ length output.old) }
+    requires { Place p × (length ring.old ≡ 1024) × (length samples.now ≡ 32) × Small samples.now × (at + 63 ≤ length output.old) }
     ensures ring_after { ring.new ≡ slot_ring ring.old p samples.now }
     ensures output_after { output.new ≡ stores output.old at (output_of (slot_ring ring.old p samples.now) p) 32 }
 {
@@ -37,12 +37,12 @@ fn slot(
     p: usize,
     sample: &[i32],
     n: usize,
-    window: &[f32; 512],
+    window: &Window,
     output: &mut [f32],
     at: usize,
 )
     requires { Place p × (memory_length ≤ length memory.old) × (length sample.now ≡ 192) × Small sample.now × (n < 3)
-        × (window.now ≡ window_list) × (at + 64 ≤ length output.old) }
+        × (at + 64 ≤ length output.old) }
     ensures memory_after { memory.new ≡ slot_memory (slot_samples sample.now) memory.old p n }
     ensures output_after { output.new ≡ slot_output (slot_samples sample.now) memory.old p n output.old at }
 {
@@ -72,11 +72,11 @@ pub fn synthesize(
     memory: &mut [f32],
     p: usize,
     sample: &[i32; 192],
-    window: &[f32; 512],
+    window: &Window,
     output: &mut [f32],
     at: usize,
 ) -> usize
-    requires { Place p × (memory_length ≤ length memory.old) × Small sample.now × (window.now ≡ window_list) × (at + 192 ≤ length output.old) }
+    requires { Place p × (memory_length ≤ length memory.old) × Small sample.now × (at + 192 ≤ length output.old) }
     ensures value { result ≡ position_after p 3 }
     ensures memory_after { memory.new ≡ memory_after (slot_samples sample.now) p memory.old 3 }
     ensures output_after { output.new ≡ output_after (slot_samples sample.now) p memory.old output.old at 3 }

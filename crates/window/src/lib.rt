@@ -7,6 +7,10 @@ ghost use Rattle.ground.specs.Table.{table};
 ghost use Rattle.window.specs.Window.{window_list};
 ghost use Rattle.window.specs.Output.{Place, taps, output_of, stores};
 
+mod entries;
+
+pub use entries::Window;
+
 const SYNTHESIS_WINDOW: [f32; 512] = [
     0.0, -0.5, -0.5, -0.5, -0.5, -0.5, -0.5, -1.0, -1.0, -1.0, -1.0, -1.5, -1.5, -2.0, -2.0, -2.5,
     -2.5, -3.0, -3.5, -3.5, -4.0, -4.5, -5.0, -5.5, -6.5, -7.0, -8.0, -8.5, -9.5, -10.5, -12.0,
@@ -54,35 +58,30 @@ const SYNTHESIS_WINDOW: [f32; 512] = [
 ];
 
 // The window, for a caller to hold and lend.
-pub fn synthesis_window() -> [f32; 512]
-    ensures { result ≡ window_list }
+pub fn synthesis_window() -> Window
+    ensures { result.entries ≡ window_list }
 {
-    SYNTHESIS_WINDOW
+    Window {
+        entries: SYNTHESIS_WINDOW,
+    }
 }
 
 // The sum with eight products more, for output j: window (row + 64 k) mod 512 + j by ring start + 128 k + j.
 // As `row` is a multiple of 32, the compiler sees neighbours in j and takes four outputs at a time.
-fn add_products(
-    window: &[f32; 512],
-    ring: &[f32],
-    row: usize,
-    start: usize,
-    j: usize,
-    sum: f32,
-) -> f32
-    requires { (window.now ≡ window_list) × (length ring.now ≡ 1024) × (row % 32 ≡ 0) × (row ≤ 544) × (start ≤ 96) × (j < 32) }
+fn add_products(window: &Window, ring: &[f32], row: usize, start: usize, j: usize, sum: f32) -> f32
+    requires { (length ring.now ≡ 1024) × (row % 32 ≡ 0) × (row ≤ 544) × (start ≤ 96) × (j < 32) }
     ensures { result ≡ taps ring.now (row + j) (start + j) 8 sum }
 {
     let mut total = sum;
     for k in 0..8 {
-        total += window[(row + 64 * k) % 512 + j] * ring[start + 128 * k + j];
+        total += window.entries[(row + 64 * k) % 512 + j] * ring[start + 128 * k + j];
     }
     total
 }
 
 // Output j of the slot at ring position p.
-fn output_at(window: &[f32; 512], ring: &[f32], p: usize, j: usize) -> f32
-    requires { (window.now ≡ window_list) × (length ring.now ≡ 1024) × Place p × (j < 32) }
+fn output_at(window: &Window, ring: &[f32], p: usize, j: usize) -> f32
+    requires { (length ring.now ≡ 1024) × Place p × (j < 32) }
     ensures { result ≡ output_of ring.now p j }
 {
     let half = add_products(window, ring, 512 - p / 2, p % 128 / 2, j, 0.0);
@@ -91,8 +90,8 @@ fn output_at(window: &[f32; 512], ring: &[f32], p: usize, j: usize) -> f32
 }
 
 // The 32 outputs of the slot at p.
-fn outputs(window: &[f32; 512], ring: &[f32], p: usize, values: &mut [f32])
-    requires { (window.now ≡ window_list) × (length ring.now ≡ 1024) × Place p × (length values.old ≡ 32) }
+fn outputs(window: &Window, ring: &[f32], p: usize, values: &mut [f32])
+    requires { (length ring.now ≡ 1024) × Place p × (length values.old ≡ 32) }
     ensures { values.new ≡ table 32 (output_of ring.now p) }
 {
     for (j, value) in values.iter_mut().enumerate() {
@@ -112,8 +111,8 @@ fn store(values: &[f32], output: &mut [f32], at: usize)
 
 // The 32 outputs of the slot at p, to every second place of the output from `at` on.
 // They are collected first: next to the lent output the compiler would have to look for overlaps at each slot.
-pub fn window_slot(window: &[f32; 512], ring: &[f32], p: usize, output: &mut [f32], at: usize)
-    requires { (window.now ≡ window_list) × (length ring.now ≡ 1024) × Place p × (at + 63 ≤ length output.old) }
+pub fn window_slot(window: &Window, ring: &[f32], p: usize, output: &mut [f32], at: usize)
+    requires { (length ring.now ≡ 1024) × Place p × (at + 63 ≤ length output.old) }
     ensures { output.new ≡ stores output.old at (output_of ring.now p) 32 }
 {
     let mut values = [0.0f32; 32];

@@ -13,7 +13,7 @@ unfolding granule_of
 synthesize-ring-requires c =
     let lent = c.requires.1 in
     let codes = learnt Bounded _ _ _ c.read_granule-end.ensures (granule_bounded _ c.args.side.now.ranged _ _ _) in
-    (lent.place, lent.memory_long, bounded_small _ codes, lent.window_is, omega (arith, lent.output_long))
+    (lent.place, lent.memory_long, bounded_small _ codes, omega (arith, lent.output_long))
 
 pub returns : goal.returns
 unfolding granule_of

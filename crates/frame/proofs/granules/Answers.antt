@@ -17,7 +17,6 @@ granule-at-requires c =
       omega arith,
       record {
         place = rw l.invariant.2.place (place_after lent.place (3 * l.g));
-        window_is = lent.window_is;
         memory_long = omega (arith, lent.memory_long);
         output_long = omega (arith, lent.output_long);
       },

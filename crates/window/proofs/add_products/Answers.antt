@@ -11,4 +11,4 @@ loop-k-init c = refl
 
 pub loop-k-preserved : goal.loop-k-preserved
 loop-k-preserved c =
-    product_more _ _ _ _ _ _ c.args.sum _ c.requires.0 c.requires.2 c.requires.5 c.loop-k.invariant
+    product_more _ _ _ _ _ _ c.args.sum _ c.args.window.now.listed c.requires.1 c.requires.4 c.loop-k.invariant

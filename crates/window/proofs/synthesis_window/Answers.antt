@@ -5,6 +5,6 @@ use lib.Ieee.{mul, of_int, of_bits}
 use Rattle.window.specs.Window.{window_list, half, standard_d}
 use Rattle.window.proofs.synthesis_window.Goals as goal
 
-pub returns : goal.returns
+pub invariant_of-result : goal.invariant_of-result
 unfolding window_list half standard_d mul of_int of_bits
-returns c = refl
+invariant_of-result c = record { listed = refl }
