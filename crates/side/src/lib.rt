@@ -4,7 +4,6 @@
 ghost use Rattle.std.specs.Prelude.{◌≡◌, ◌≤◌, ◌<◌};
 ghost use Rattle.std.specs.Prelude.{ℕ, List};
 ghost use Rattle.grammar.specs.Reads.{Reads, run, taken};
-ghost use Rattle.tables.specs.Source.{step4};
 ghost use Rattle.ground.specs.Stores.{three};
 ghost use Rattle.side.specs.Bands.{bands, channels_of, allocated_of};
 ghost use Rattle.side.specs.Callers.{TakesPlaces, ReadsAs};
@@ -15,6 +14,7 @@ mod info;
 
 use buffer::{Reader, Taken};
 pub use info::{Layout, SideInfo};
+use tables::QuantiserTable;
 
 // The bound, no higher than the limit.
 pub fn cut(bound: usize, limit: usize) -> usize
@@ -27,13 +27,13 @@ pub fn cut(bound: usize, limit: usize) -> usize
 fn read_allocation(
     reader: Reader,
     s: &[u8],
-    quantisers: &[[u8; 16]; 5],
+    quantisers: &QuantiserTable,
     table: usize,
     sb: usize,
     place: usize,
     quant: &mut [u8; 64],
 ) -> Reader
-    requires { (quantisers.now ≡ step4) × (table < 2) × (sb < 32) × (place < 64) }
+    requires { (table < 2) × (sb < 32) × (place < 64) }
     ensures { taken quant.new result ≡ run (allocation_of table sb place quant.old) s.now reader }
 {
     let f = reader.field(s, tables::allocation_bits(table, sb));
@@ -45,12 +45,12 @@ fn read_allocation(
 fn allocation_band(
     reader: Reader,
     s: &[u8],
-    quantisers: &[[u8; 16]; 5],
+    quantisers: &QuantiserTable,
     layout: Layout,
     sb: usize,
     quant: &mut [u8; 64],
 ) -> Reader
-    requires { (quantisers.now ≡ step4) × (layout.table < 2) × (sb < 32) }
+    requires { (layout.table < 2) × (sb < 32) }
     ensures { taken quant.new result ≡ run (allocation_band_of layout.table layout.bound sb quant.old) s.now reader }
 {
     let left = read_allocation(reader, s, quantisers, layout.table, sb, sb, quant);

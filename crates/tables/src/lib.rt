@@ -6,6 +6,10 @@ ghost use Rattle.tables.specs.Source.{step4, class_of, entry_of, source_row_of, 
 ghost use Rattle.tables.specs.Standard.{kbps_of, rate_of, limit_of, levels_of, code_bits_of, grouped_of};
 ghost use Rattle.tables.specs.Differences.{table_of};
 
+mod quantiser_table;
+
+pub use quantiser_table::QuantiserTable;
+
 const BIT_RATE: [u32; 14] = [
     32, 48, 56, 64, 80, 96, 112, 128, 160, 192, 224, 256, 320, 384,
 ];
@@ -81,10 +85,12 @@ pub fn allocation_table(mode: u32, bitrate: usize, samplerate: usize) -> usize
 }
 
 // For a caller to build once and lend.
-pub fn allocation_quantisers() -> [[u8; 16]; 5]
-    ensures { result ≡ step4 }
+pub fn allocation_quantisers() -> QuantiserTable
+    ensures { result.rows ≡ step4 }
 {
-    QUANT_LUT_STEP_4
+    QuantiserTable {
+        rows: QUANT_LUT_STEP_4,
+    }
 }
 
 // QUANT_LUT_STEP_3 by ranges of subbands: 16 times the allocation's width, and a row of step 4.
@@ -131,11 +137,11 @@ pub fn allocation_bits(table: usize, sb: usize) -> usize
 }
 
 // The quantiser that an allocation stands for: 0 to 17.
-pub fn quantiser(quantisers: &[[u8; 16]; 5], table: usize, sb: usize, allocation: usize) -> u8
-    requires { (quantisers.now ≡ step4) × (table < 2) × (sb < 32) × (allocation < 16) }
+pub fn quantiser(quantisers: &QuantiserTable, table: usize, sb: usize, allocation: usize) -> u8
+    requires { (table < 2) × (sb < 32) × (allocation < 16) }
     ensures { result ≡ quantiser_of table sb allocation }
 {
-    quantisers[row(table, sb) % 16][allocation]
+    quantisers.rows[row(table, sb) % 16][allocation]
 }
 
 // Three samples share a code.

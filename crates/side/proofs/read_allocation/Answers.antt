@@ -17,7 +17,7 @@ quantiser-requires c =
     let a = c.args in
     let small : c.field-f.result.value < 2 ^ width_of a.table a.sb =
     rw c.allocation_bits.ensures at c.field-f.ensures.small in
-    (c.requires.0, c.requires.1, c.requires.2, lt_of_lt_of_le small (pow_mono (width≤4 a.table a.sb)))
+    (c.requires.0, c.requires.1, lt_of_lt_of_le small (pow_mono (width≤4 a.table a.sb)))
 
 pub returns : goal.returns
 unfolding allocation_of

@@ -9,4 +9,4 @@ bounds-quantisers-row c = omega (arith, rw (← c.row.ensures) at (row≤4 c.arg
 
 pub returns : goal.returns
 unfolding quantiser_of
-returns c = rw (c.row.ensures, c.requires.0)
+returns c = rw (c.row.ensures, c.args.quantisers.now.listed)
