@@ -19,12 +19,6 @@ returns-then-samplerate-eq3 c =
     (field_then _ _ _ _ c.field-samplerate.ensures.is
     (rw (eq-eqb _ _ c.if-samplerate-eq3.true) (sym (run_done _ _ _)))))
 
-pub overflow_sub-value : goal.overflow_sub-value
-overflow_sub-value c =
-    let b = c.field-bitrate.result.value in
-    let n = eqb-false b 0 (neither (eqb b 0) (eqb b 15) c.if-bitrate.false).0 in
-    omega arith
-
 pub returns : goal.returns
 unfolding rates_of
 returns c =

@@ -39,9 +39,3 @@ returns-then-is_told c =
     ∙ refusal _ _ _ _ c.nothing-then-is_told.ensures _ _ c.number-number.ensures _ c.in-Err.is c.is_told.ensures _ c.byte_of-at.ensures
     c.if-is_told.true
 
-pub returns-in-Ok : goal.returns-in-Ok
-returns-in-Ok c = known _ _ _ _ c.nothing.ensures c.in-Ok.is
-
-pub returns-else-is_told : goal.returns-else-is_told
-returns-else-is_told c =
-    untold _ _ _ _ c.nothing-in-Err.ensures _ _ c.number-number.ensures _ c.in-Err.is c.is_told.ensures c.if-is_told.false

@@ -34,28 +34,6 @@ pub returns-in_err-admitted : goal.returns-in_err-admitted
 unfolding search_of
 returns-in_err-admitted c = refuses c.args.s.now c.args.self _ c.from_residual.ensures c.admitted.ensures c.in_err-admitted.was
 
-pub overflow_add-after : goal.overflow_add-after
-overflow_add-after c = omega (arith, ap (λ p. p.0) c.byte-from.ensures, admits c.args.s.now c.args.self c.admitted.ensures c.in_ok-admitted.was)
-
-pub bit-next-requires : goal.bit-next-requires
-bit-next-requires c = omega (arith, ap (λ p. p.0) c.byte-from.ensures, admits c.args.s.now c.args.self c.admitted.ensures c.in_ok-admitted.was)
-
-pub last_of-requires : goal.last_of-requires
-last_of-requires c = search rules
-
-pub overflow_sub-result : goal.overflow_sub-result
-overflow_sub-result c = omega (arith, c.first_pair-found.ensures)
-
-pub overflow_add-result : goal.overflow_add-result
-overflow_add-result c =
-    omega (
-      arith,
-      ap (λ p. p.0) c.bit-next.ensures,
-      c.first_pair-found.ensures,
-      ap (λ p. p.0) c.byte-from.ensures,
-      admits c.args.s.now c.args.self c.admitted.ensures c.in_ok-admitted.was,
-    )
-
 pub returns-then-found-last_of : goal.returns-then-found-last_of
 returns-then-found-last_of c =
     let stop = c.first_pair-found.result in

@@ -10,9 +10,6 @@ pub returns-in_err-admitted : goal.returns-in_err-admitted
 unfolding skip_bytes_of
 returns-in_err-admitted c = refuses c.args.s.now c.args.self _ c.from_residual.ensures c.admitted.ensures c.in_err-admitted.was
 
-pub bit-at-requires : goal.bit-at-requires
-bit-at-requires c = omega (arith, ap (λ p. p.0) c.byte_after-from.ensures, admits c.args.s.now c.args.self c.admitted.ensures c.in_ok-admitted.was)
-
 pub returns : goal.returns
 unfolding skip_bytes_of
 returns c =
