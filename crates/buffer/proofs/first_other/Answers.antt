@@ -12,3 +12,5 @@ returns-then-s-i-clause-is c = first_here _ _ _ _ (omega arith) (search (rules, 
 pub loop-i-preserved : goal.loop-i-preserved
 loop-i-preserved c = first_later _ _ _ _ (omega arith) (search (rules, tests)) c.loop-i.invariant
 
+pub returns-clause-is : goal.returns-clause-is
+returns-clause-is c = c.max.ensures ∙ past_end c.args.s.now c.args.v c.args.from.0 c.loop-i.i (omega arith) (λ l. omega arith) c.loop-i.invariant

@@ -1,5 +1,4 @@
 use mathlib.Core.Path.{ap}
-use native.Mathlib.Omega.{arith}
 use borrow.Author.Rules.{rules}
 use Rattle.ground.specs.Tests.{tests}
 use Rattle.buffer.specs.Calls.{skip_bytes_of}
