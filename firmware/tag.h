@@ -2,7 +2,7 @@
  * the loop of a player.
  *
  * RAM: 8,192 bytes of memory, 9,216 of output, 104 of state, and 4,608 of 16-bit samples where they are wanted. Stack: at
- * most 5,852 bytes on the processors that were measured. Flash: 21 KB, 28 on a Cortex-M0+. README.md has each processor.
+ * most 5,988 bytes on the processors that were measured. Flash: 21 KB, 28 on a Cortex-M0+. README.md has each processor.
  *
  * What is lent is an address and a count. No address is NULL, also where the count is 0. Each is aligned as its type
  * asks, which is 8 bytes for places, time, start and bits. What a call may write does not overlap with anything else
