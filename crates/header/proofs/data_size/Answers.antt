@@ -1,6 +1,4 @@
-use native.Mathlib.Omega.{arith}
 use Rattle.header.specs.Header.{size_of}
-use Rattle.header.specs.Accepted.{frame_sizes}
 use Rattle.header.proofs.data_size.Goals as goal
 
 pub returns-then-check : goal.returns-then-check

@@ -1,9 +1,6 @@
-use lib.Dec.{eqb}
-use native.Mathlib.Omega.{arith}
-use Rattle.ground.specs.Tests.{neither}
 use mathlib.Core.Path.{sym}
 use Rattle.grammar.specs.Run.{field_then, run_done}
-use borrow.Author.Tests.{eqb-false, eq-eqb, ne_eqb}
+use borrow.Author.Tests.{eq-eqb, ne_eqb}
 use Rattle.header.specs.Header.{rates_of}
 use Rattle.header.proofs.read_rates.Goals as goal
 
