@@ -38,4 +38,3 @@ returns-then-is_told c =
     c.add.ensures
     ∙ refusal _ _ _ _ c.nothing-then-is_told.ensures _ _ c.number-number.ensures _ c.in-Err.is c.is_told.ensures _ c.byte_of-at.ensures
     c.if-is_told.true
-
