@@ -19,7 +19,7 @@ descriptor_of (Lines reading behind) = pos 1
 descriptor_of (Summary reading) = pos 2
 descriptor_of Wave = pos 1
 
--- the system's numbers of the two streams
-abbrev pub number_of : Descriptor → ℤ
-number_of Output = pos 1
-number_of Error = pos 2
+-- the system's number of each stream
+abbrev pub system_number : Descriptor → ℤ
+system_number Output = pos 1
+system_number Error = pos 2

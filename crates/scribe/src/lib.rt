@@ -4,7 +4,7 @@
 
 ghost use Rattle.std.specs.Prelude.{◌≡◌, length, MatchResult};
 ghost use Rattle.scribe.specs.Page.{IsNext, IsNew, Puts};
-ghost use Rattle.scribe.specs.Whole.{descriptor_of, number_of};
+ghost use Rattle.scribe.specs.Whole.{descriptor_of, system_number};
 
 use listing::Behind;
 use readings::Reading;
@@ -27,7 +27,7 @@ enum Descriptor {
 impl Whole {
     // The summary is for whoever looks on: it goes to standard error, so that standard output has the listing or the file and nothing else.
     fn descriptor(self) -> Descriptor
-        ensures { number_of result ≡ descriptor_of self }
+        ensures { system_number result ≡ descriptor_of self }
     {
         match self {
             Whole::Lines(_, _) => Descriptor::Output,
