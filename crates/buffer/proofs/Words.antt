@@ -1,6 +1,6 @@
 -- How the machine puts a field together out of 8 bytes at once.
 -- Assumes nothing.
-use Prim.Native.Nat.{ℕ, suc, ◌+◌, ◌-◌, ◌*◌, ◌/◌, ◌%◌, ◌^◌, ◌≤◌, ◌<◌}
+use Prim.Native.Nat.{ℕ, ◌+◌, ◌-◌, ◌*◌, ◌/◌, ◌%◌, ◌^◌, ◌≤◌, ◌<◌}
 use mathlib.Core.Path.{◌≡◌, refl, ap, sym, ◌∙◌}
 use mathlib.Core.List.{List}
 use native.Mathlib.Nat.{lt_of_lt_of_le, le_of_suc-le-suc}
@@ -10,7 +10,7 @@ use lib.ListN.{get_or}
 use Rattle.std.specs.Prelude.{max, Bool, true, false, ltb, length}
 use Rattle.std.proofs.Common.{ltb-true, ltb-false}
 use Rattle.ground.specs.First.{first_from, first_none}
-use Rattle.buffer.specs.Bits.{bit_at, bits_value, other_at, past_of}
+use Rattle.buffer.specs.Bits.{bits_value, other_at, past_of}
 use Rattle.buffer.specs.Laws.{split, bits_below, byte_is_bits}
 use Rattle.buffer.specs.Calls.{taken, or_zero}
 use Rattle.buffer.specs.declared.Reader.{Reader}
@@ -71,19 +71,6 @@ not_value r (Err e) h = refl
 -- the first bits of a field of at most 32, with the next one: what the machine keeps of it fits
 pub double_fits : (s : List ℕ) (at n v : ℕ) → v ≡ bits_value s at n → n < 32 → v * 2 + 1 < 2 ^ 32
 double_fits s at n v e l = let b : v < 2 ^ 31 = rw e (lt_of_lt_of_le (bits_below s at n) (pow_mono (le_of_suc-le-suc l))) in omega arith
-
--- no bit, and one bit more
-pub none_yet : (s : List ℕ) (at : ℕ) → 0 ≡ bits_value s at (at - at)
-unfolding bits_value
-none_yet s at = let e : at - at ≡ 0 = omega arith in rw e refl
-
-pub one_more : (s : List ℕ) (at place v b : ℕ) → at ≤ place → v ≡ bits_value s at (place - at)
-    → b ≡ get_or s (place / 8) 0 / 2 ^ (7 - place % 8) % 2 → v * 2 + b ≡ bits_value s at (place + 1 - at)
-unfolding bits_value bit_at
-one_more s at place v b l e f =
-    let more : place + 1 - at ≡ suc (place - at) = omega arith in
-    let here : at + (place - at) ≡ place = omega arith in
-    rw (more, here, e, f) refl
 
 -- a search that came to the stream's end, or began behind it, stands at the farther of the two
 pub past_end : (s : List ℕ) (v from i : ℕ) → length s ≤ i → (from ≤ length s → i ≤ length s)

@@ -98,7 +98,8 @@ fn last_bits(s: &[u8], at: usize, count: usize) -> u32
     ensures { result ≡ bits_value s.now at count }
 {
     let mut value: u32 = 0;
-    for place in at..at + count {
+    for done in 0..count {
+        let place = at + done;
         value = value * 2 + bit(s[place / 8], place % 8);
     }
     value
@@ -227,7 +228,8 @@ impl Reader {
         Ok(remaining(s, self.at.0) == 0)
     }
 
-    // The next `count` bits as a number, at most 32 of them.
+    // The next `count` bits as a number, at most 32 of them. Inlined, so that a run of fields calls nothing.
+    #[inline]
     pub fn read(self, s: &[u8], count: usize) -> Result<Taken<u32>, Refusal>
         ensures { result ≡ read_of s.now self count }
     {
