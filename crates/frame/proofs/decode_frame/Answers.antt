@@ -1,6 +1,6 @@
 use mathlib.Core.Path.{ap, ◌∙◌}
 use Rattle.frame.specs.Frame.{frame_memory, frame_output}
-use Rattle.frame.proofs.Whole.{table<2, whole}
+use Rattle.frame.proofs.Whole.{table<2, whole_by}
 use Rattle.frame.proofs.decode_frame.Goals as goal
 
 pub read_side-side-requires : goal.read_side-side-requires
@@ -13,7 +13,7 @@ returns c =
     let played = c.granules.ensures in
     let laid = c.lay_out.ensures in
     let side = c.read_side-side in
-    let w = whole a.s.now a.reader a.f side.result _ laid.mono laid.table laid.bound laid.limit side.ensures.layout side.ensures.side in
+    let w = whole_by a.s.now a.reader a.f side.result _ laid.mono laid.table laid.bound laid.limit side.ensures.layout side.ensures.side in
     record {
       end_is = played.end_is ∙ ap (λ z. z.next) w;
       ring_is = played.ring_is;
