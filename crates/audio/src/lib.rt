@@ -71,6 +71,7 @@ fn after(a: Audio, stream: &[u8], end: Reader, ring: usize, skipped: usize) -> D
             pending: 0,
             ring,
             time,
+            ..a
         },
         skipped,
     }

@@ -1,4 +1,5 @@
 use mathlib.Core.Path.{sym, ◌∙◌}
+use native.Mathlib.Omega.{arith}
 use Rattle.refusal.specs.Handed.{not_there}
 use Rattle.audio.specs.CallsLaws.{no_room, long_enough, opens}
 use Rattle.audio.proofs.new.Goals as goal
@@ -9,7 +10,7 @@ returns-in-Some c =
     record { value = whole.0; memory_after = whole.1 }
 
 pub slice_bounds-clear-end : goal.slice_bounds-clear-end
-slice_bounds-clear-end c = long_enough _ _ (sym (not_there _ c.in_default.not-Some) ∙ c.no_room.ensures)
+slice_bounds-clear-end c = omega (arith, long_enough _ _ (sym (not_there _ c.in_default.not-Some) ∙ c.no_room.ensures))
 
 pub returns : goal.returns
 returns c =
