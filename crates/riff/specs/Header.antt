@@ -1,7 +1,7 @@
 -- The 44 bytes before the samples of a RIFF WAVE file. From IBM and Microsoft, "Multimedia Programming Interface and Data
 -- Specifications 1.0": a RIFF chunk of the form WAVE, that holds a format chunk and a data chunk. 02, E1: "Lengths in the header are exact."
 -- Assumes nothing.
-use Rattle.std.specs.Prelude.{ℕ, ◌+◌, ◌-◌, ◌*◌, ◌/◌, ◌%◌, ◌^◌, ◌≤◌, ◌<◌, ◌≡◌, refl, List, [], ◌∷◌, ◌++◌, length, take, drop}
+use Rattle.std.specs.Prelude.{ℕ, ◌+◌, ◌-◌, ◌*◌, ◌/◌, ◌%◌, ◌^◌, ◌≤◌, ◌<◌, ◌≡◌, refl, List, [], ◌∷◌, ◌++◌, length, take, drop, set}
 use Rattle.std.proofs.Math.Nat.{div-div-eq-div-mul}
 use Rattle.std.proofs.Common.{arith}
 
@@ -71,6 +71,7 @@ pub lengths_exact : (frames rate : ℕ) → frames ≤ 900000
 unfolding wave_header_of
 lengths_exact frames rate h = (le32_back (36 + data_bytes frames) (omega arith), le32_back (data_bytes frames) (omega arith))
 
--- bytes with the four of a number put in from a place on: what `riff::put` does
+-- bytes with the four of a number stored from a place on: what `riff::put` does
 abbrev pub put_at : List ℕ → ℕ → ℕ → List ℕ
-put_at bytes at n = take at bytes ++ (le32 n ++ drop 4 (drop at bytes))
+put_at bytes at n =
+    set (set (set (set bytes at (n % 256)) (at + 1) (n / 256 % 256)) (at + 2) (n / 65536 % 256)) (at + 3) (n / 16777216 % 256)

@@ -94,6 +94,7 @@ pub fn write_words(values: &[f32], words: &mut [u16])
 }
 
 // n in four bytes from `at` on, low byte first.
+#[tactic(auto, using(crate::proofs::Stored::stored))]
 fn put(bytes: &mut [u8; 44], at: usize, n: u32)
     requires { at ≤ 40 }
     ensures { bytes.new ≡ put_at bytes.old at n }
