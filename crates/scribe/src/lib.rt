@@ -19,6 +19,7 @@ pub enum Whole {
 }
 
 // The two streams that are written to; specs/Whole has the system's numbers of them.
+#[derive(Clone, Copy)]
 enum Descriptor {
     Output,
     Error,
@@ -38,8 +39,9 @@ impl Whole {
 }
 
 // A text of a stream, how much of it is written, and where it goes. The fields are this crate's alone: a count comes from `new` and `put`, and
-// from nowhere else. A page is not copied, so no count is kept and used again; and it is not dropped, so that whoever has written asks
-// `finish` whether a write failed. After a write that failed nothing more is written.
+// from nowhere else. After a write that failed nothing more is written. A page is plain data and may be copied, as a decoder's state may: no
+// type keeps a program from going on with a copy.
+#[derive(Clone, Copy)]
 pub struct Page<'a> {
     stream: &'a [u8],
     what: Whole,
@@ -85,15 +87,7 @@ impl<'a> Page<'a> {
     pub fn finish(self) -> Result<()>
         ensures { MatchResult result (λ _. self.entry.failure ≡ None) (λ why. self.entry.failure ≡ Some why) }
     {
-        let Page {
-            stream: _,
-            what: _,
-            output: _,
-            error: _,
-            bytes: _,
-            failure,
-        } = self;
-        match failure {
+        match self.failure {
             None => Ok(()),
             Some(why) => Err(why),
         }
