@@ -20,7 +20,7 @@ fn put_bits(rt: HostRuntime, n: u64) -> Result<()> {
 }
 
 // A state, as the boundary has it.
-#[derive(Drop)]
+#[derive(Clone, Copy)]
 struct Saved {
     places: [usize; 8],
     counts: [u32; 8],
@@ -151,7 +151,7 @@ fn tell(rt: HostRuntime) {
                 scribe::fail(rt, b"standard output", Some(why));
             }
         }
-        Err(why) => scribe::fail(rt, b"standard input", Some(why)),
+        Err(failed) => scribe::fail(rt, b"standard input", Some(failed.why)),
     }
 }
 

@@ -9,7 +9,7 @@ fn list(rt: HostRuntime, reading: Reading, behind: Behind) {
     let mut room = [0u8; 65537];
     match input::read(&mut rt.stdin(), &mut room) {
         Ok(stream) => tell(rt, stream, reading, behind),
-        Err(why) => scribe::fail(rt, b"standard input", Some(why)),
+        Err(failed) => scribe::fail(rt, b"standard input", Some(failed.why)),
     }
 }
 
@@ -23,6 +23,7 @@ fn tell(rt: HostRuntime, stream: &[u8], reading: Reading, behind: Behind) {
 }
 
 // What a word asks for: a choice, as readings has them, or words behind each line.
+#[derive(Clone, Copy)]
 enum Asks {
     Choice(u32),
     Words,
@@ -31,7 +32,7 @@ enum Asks {
 // None where the word is not known; one that is too long is none.
 fn asked_by(rt: HostRuntime, i: usize) -> Option<Asks> {
     let mut room = [0u8; 8];
-    match input::argument(&rt, i, &mut room)? {
+    match input::argument(&rt, i, &mut room) {
         b"strict" => Some(Asks::Choice(1)),
         b"words" => Some(Asks::Words),
         _ => None,

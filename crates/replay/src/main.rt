@@ -14,23 +14,32 @@ fn list(rt: HostRuntime, name: &[u8], stream: &[u8]) -> Result<()> {
 }
 
 // A name that is no text is the name of no file here.
-fn read<'a>(rt: HostRuntime, name: &[u8], room: &'a mut [u8]) -> Result<&'a [u8]> {
+fn open(rt: HostRuntime, name: &[u8]) -> Result<File> {
     let path = std::str::from_utf8(name).map_err(|_| Error::from(ErrorKind::InvalidFilename))?;
-    let mut file = File::open(&rt, path)?;
-    input::read(&mut file, room)
+    File::open(&rt, path)
 }
 
-// A file that cannot be read is told, and the others are played: what fails here is standard output.
+// A file that cannot be read is told, and the others are played.
+fn told(rt: HostRuntime, name: &[u8], why: Error) -> Result<()> {
+    scribe::fail(rt, name, Some(why));
+    Ok(())
+}
+
+// What fails here is standard output.
+fn play(rt: HostRuntime, name: &[u8], mut file: File) -> Result<()> {
+    let mut room = [0u8; 65537];
+    match input::read(&mut file, &mut room) {
+        Ok(stream) => list(rt, name, stream),
+        Err(failed) => told(rt, name, failed.why),
+    }
+}
+
 fn replay(rt: HostRuntime, i: usize) -> Result<()> {
     let mut letters = [0u8; 4096];
-    let mut room = [0u8; 65537];
-    let name = input::argument(&rt, i, &mut letters).unwrap_or(b"");
-    match read(rt, name, &mut room) {
-        Ok(stream) => list(rt, name, stream),
-        Err(why) => {
-            scribe::fail(rt, name, Some(why));
-            Ok(())
-        }
+    let name = input::argument(&rt, i, &mut letters);
+    match open(rt, name) {
+        Ok(file) => play(rt, name, file),
+        Err(why) => told(rt, name, why),
     }
 }
 

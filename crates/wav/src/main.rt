@@ -55,7 +55,7 @@ fn play(rt: HostRuntime) {
     let mut room = [0u8; 65537];
     match input::read(&mut rt.stdin(), &mut room) {
         Ok(stream) => tell(rt, stream),
-        Err(why) => scribe::fail(rt, b"standard input", Some(why)),
+        Err(failed) => scribe::fail(rt, b"standard input", Some(failed.why)),
     }
 }
 
